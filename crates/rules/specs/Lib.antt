@@ -1,0 +1,12 @@
+pub mod Tree
+pub mod Kinds
+pub mod Grammar
+pub mod Refusals
+pub mod Words
+pub mod Check
+pub mod Held
+pub mod Names
+pub mod Counting
+pub mod Tables
+pub mod Rings
+pub mod Judges

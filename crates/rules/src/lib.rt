@@ -1,0 +1,3 @@
+pub fn nothing_yet() -> u8 {
+    0
+}
