@@ -10,3 +10,7 @@ pub mod Counting
 pub mod Tables
 pub mod Rings
 pub mod Judges
+pub mod Removal
+pub mod Calls
+pub mod Law
+pub mod Scripts
