@@ -124,7 +124,7 @@ pub record Pass : Type 0 where
 
 -- what its removal goes by
 abbrev pub pass-by : Config → Filled → By
-pass-by k filled = going-by k (filled .declared) (discount (filled .counts))
+pass-by k filled = let names = discount (filled .counts) in going-by k (filled .declared) names
 
 -- what it leaves of the tree
 abbrev pub remove : Config → Pass → Left

@@ -19,7 +19,8 @@ use Rattle.rules.specs.Refusals.Outcome.{fine, refused}
 use Rattle.rules.specs.Check.{check}
 use Rattle.rules.specs.Held.{Numbers}
 use Rattle.rules.specs.Counting.{Event, unheld, events-of}
-use Rattle.rules.specs.Rings.{closed, together}
+use Rattle.rules.specs.Names.{among}
+use Rattle.rules.specs.Rings.{component, closed}
 use Rattle.rules.specs.Judges.{Lawful}
 use Rattle.rules.specs.Removal.{Config, Place, at-root, place-inside, permitted, retained, entered, taken, gave}
 use Rattle.rules.specs.Calls.{State, Handed, Pass, After, Call, Answer, Repeated, start, begun, pass-by, calls, final, passes-made}
@@ -148,7 +149,7 @@ pub record Inside-ring (p : Pass) (left : Chain) (e : Event) : Type 0 where
   pub holder : Name
   pub inside : Inside holder (e .at) left
   pub ring : closed (p .filled .counts) (e .name) ≡ true
-  pub shares : together (p .filled .counts .edges) (e .name) holder ≡ true
+  pub shares : among holder (component (p .filled .counts .edges) (e .name)) ≡ true
 
 -- every counted reference left to a name whose declaration a pass of the list took, and every counted reading left
 -- of a name of which an Assignment gave way in it, stands inside that pass's closed ring

@@ -274,7 +274,10 @@ treated false by p h found inner = unchanged (link h found end)
 abbrev pub treat : By → Place → Chain → Left
 treat by p end = unchanged end
 treat by p (link h children rest) =
-  both (treated (entered p h children (isEnd rest)) by p h children (treat by (place-inside p h) children)) (treat by p rest)
+  let inner = treat by (place-inside p h) children in
+  let here = treated (entered p h children (isEnd rest)) by p h children inner in
+  let onward = treat by p rest in
+  both here onward
 
 -- the first names of Declarators
 abbrev pub declarator-names : Chain → List Name

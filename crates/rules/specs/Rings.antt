@@ -1,9 +1,9 @@
 -- Rings: names that only refer to each other are discounted.
 --
 --   Edge, Leads              edges lead from one name to another, one after another
---   leads, together          the same, computed; two names share a component (Tarjan 1972)
---   several, has-entry, led-into, closed      a closed ring
---   minus, discount          what a closed ring's names lose
+--   reach, leads, component  the same, computed; the names that share a component (Tarjan 1972)
+--   has-other, has-entry, led-into, closed      a closed ring
+--   minus, less, discount    what a closed ring's names lose
 use Prim.Native.Nat.{ℕ, _+_, _-_, _%_, _^_}
 use mathlib.Core.Path.{_≡_}
 use mathlib.Core.Bool.{Bool, true, false, _&&_, _||_, not}
@@ -34,55 +34,67 @@ abbrev pub looks : (times edges : List EdgeRow) → List Name → List Name
 looks [] edges names = names
 looks (t ∷ ts) edges names = looks ts edges (along edges names)
 
+-- the names to which edges lead from a
+abbrev pub reach : List EdgeRow → Name → List Name
+reach edges a = looks edges edges (a ∷ [])
+
 -- edges lead from a to b, computed
 abbrev pub leads : List EdgeRow → (a b : Name) → Bool
-leads edges a b = among b (looks edges edges (a ∷ []))
+leads edges a b = among b (reach edges a)
 
--- two names share a component
-abbrev pub together : List EdgeRow → (a b : Name) → Bool
-together edges a b = leads edges a b && leads edges b a
+-- those of some names from which edges lead to n
+abbrev pub leading-to : List EdgeRow → Name → List Name → List Name
+leading-to edges n [] = []
+leading-to edges n (m ∷ ms) = if leads edges m n then m ∷ leading-to edges n ms else leading-to edges n ms
 
--- n's component has another name
-abbrev pub several : Counts → Name → Bool
-several c n = some-row (λ r. not (same n (r .name)) && together (c .edges) n (r .name)) (c .names)
+-- the component of n: the names to which edges lead from n, and from which edges lead to n
+abbrev pub component : List EdgeRow → Name → List Name
+component edges n = leading-to edges n (reach edges n)
+
+-- another name than n stands in a component
+abbrev pub has-other : Name → (ring : List Name) → Bool
+has-other n [] = false
+has-other n (m ∷ ms) = not (same n m) || has-other n ms
 
 -- one of its names is an entry
-abbrev pub has-entry : Counts → Name → Bool
-has-entry c n = some-row (λ r. r .entry && together (c .edges) n (r .name)) (c .names)
+abbrev pub has-entry : Counts → (ring : List Name) → Bool
+has-entry c ring = some-row (λ r. r .entry && among (r .name) ring) (c .names)
 
 -- an edge leads into it from outside
-abbrev pub led-into : Counts → Name → Bool
-led-into c n = some-row (λ e. together (c .edges) n (e .to) && not (together (c .edges) n (e .from))) (c .edges)
+abbrev pub led-into : Counts → (ring : List Name) → Bool
+led-into c ring = some-row (λ e. among (e .to) ring && not (among (e .from) ring)) (c .edges)
 
 -- n stands in a closed ring: a component of two names or more that neither an entry nor an edge from outside passes over
 abbrev pub closed : Counts → Name → Bool
-closed c n = several c n && not (has-entry c n) && not (led-into c n)
+closed c n =
+  let ring = component (c .edges) n in
+  has-other n ring && (not (has-entry c ring) && not (led-into c ring))
 
 -- subtraction that wraps at 2^32
 abbrev pub minus : ℕ → ℕ → ℕ
 minus a b = (a + (2 ^ 32 - b % 2 ^ 32)) % 2 ^ 32
 
--- an edge to n from another name of its component
-abbrev pub from-ring : List EdgeRow → Name → EdgeRow → Bool
-from-ring edges n e = same (e .to) n && not (same (e .from) n) && together edges n (e .from)
+-- an edge to n from another name of its ring
+abbrev pub from-ring : (ring : List Name) → Name → EdgeRow → Bool
+from-ring ring n e = same (e .to) n && (not (same (e .from) n) && among (e .from) ring)
 
 -- the weights of the edges that pass, added up
 abbrev pub total : (EdgeRow → Bool) → (EdgeRow → ℕ) → List EdgeRow → ℕ
 total passes weight [] = 0
 total passes weight (e ∷ es) = (if passes e then weight e else 0) + total passes weight es
 
--- a row; in a closed ring, less the weights of the edges from the ring's other names
+-- a row less the weights of the edges from the other names of its ring
+abbrev pub less : (ring : List Name) → List EdgeRow → NameRow → NameRow
+less ring edges r = record {
+  name = r .name;
+  usage = minus (r .usage) (total (from-ring ring (r .name)) (λ e. e .usage) edges);
+  assign = minus (r .assign) (total (from-ring ring (r .name)) (λ e. e .assign) edges);
+  entry = r .entry;
+  counted = r .counted }
+
+-- a row, discounted if its name stands in a closed ring
 abbrev pub discount-row : Counts → NameRow → NameRow
-discount-row c r =
-  let ring = closed c (r .name) in
-  let usage = total (from-ring (c .edges) (r .name)) (λ e. e .usage) (c .edges) in
-  let assign = total (from-ring (c .edges) (r .name)) (λ e. e .assign) (c .edges) in
-  record {
-    name = r .name;
-    usage = if ring then minus (r .usage) usage else r .usage;
-    assign = if ring then minus (r .assign) assign else r .assign;
-    entry = r .entry;
-    counted = r .counted }
+discount-row c r = if closed c (r .name) then less (component (c .edges) (r .name)) (c .edges) r else r
 
 -- each row
 abbrev pub discount-rows : Counts → List NameRow → List NameRow
