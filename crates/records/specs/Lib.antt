@@ -1,0 +1,2 @@
+pub mod KindWords
+pub mod Reads

@@ -1,0 +1,5 @@
+pub mod kind;
+pub mod record;
+
+pub use kind::Kind;
+pub use record::Record;

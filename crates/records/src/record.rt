@@ -1,0 +1,54 @@
+ghost use mathlib.Core.Path.{_≡_};
+ghost use mathlib.Core.Bool.{false};
+ghost use Rattle.std.specs.Options.{Cases};
+ghost use Rattle.rules.specs.Kinds.{within};
+ghost use Rattle.rules.specs.Words.{records, stands};
+ghost use Rattle.records.specs.Reads.{Part, Reads};
+use crate::kind::Kind;
+
+/// The six words of a record: what it is, its name, and the links to its first child and to the next of its chain.
+#[derive(Clone, Copy)]
+pub struct Record {
+    pub kind: Kind,
+    pub flags: u32,
+    pub symbol: u32,
+    pub mark: u32,
+    pub first: u32,
+    pub next: u32,
+}
+
+impl Record {
+    /// Record `n` of the words, counted from 1, if it is there and of some kind.
+    pub fn at(words: &[u32], n: u32) -> Option<Record>
+        ensures { λ r. ⌜ Cases r (stands (now (words .entry)) n ≡ false) (Reads (now (words .entry)) n) ⌝ }
+    {
+        let Some(part) = part_of(words, n) else {
+            return None;
+        };
+        let [kind, flags, symbol, mark, first, next] = part else {
+            return None;
+        };
+        let Some(kind) = Kind::of(*kind) else {
+            return None;
+        };
+        Some(Record {
+            kind,
+            flags: *flags,
+            symbol: *symbol,
+            mark: *mark,
+            first: *first,
+            next: *next,
+        })
+    }
+}
+
+/// The six words of record `n`, if they are there.
+fn part_of(words: &[u32], n: u32) -> Option<&[u32]>
+    ensures { λ r. ⌜ Cases r (within 1 (records (now (words .entry))) n ≡ false) (λ part. Part (now (words .entry)) n (now part)) ⌝ }
+{
+    let end = n as usize * 6;
+    if n == 0 || end > words.len() {
+        return None;
+    }
+    Some(&words[end - 6..end])
+}
