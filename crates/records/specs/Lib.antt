@@ -1,2 +1,3 @@
 pub mod KindWords
 pub mod Reads
+pub mod Writes

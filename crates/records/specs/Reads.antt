@@ -1,8 +1,9 @@
 -- What it is to have read a record. The contracts of records and of the cursor cite it.
 --
---   headOf      a record of the code, without its links, as the book has it
---   Reads       a record of the code is what the words have at a number
-use Prim.Native.Nat.{ℕ}
+--   Starts, Part      where a record begins; its six words
+--   headOf            a record of the code, without its links, as the book has it
+--   Reads             a record of the code is what the words have at a number
+use Prim.Native.Nat.{ℕ, _+_, _-_, _*_, _≤_}
 use mathlib.Core.Path.{_≡_}
 use mathlib.Core.Bool.{true}
 use mathlib.Core.List.{List}
@@ -23,6 +24,12 @@ headOf n r = record {
   symbol = r .symbol;
   mark = r .mark;
 }
+
+-- record n begins at this word
+pub record Starts (words : List ℕ) (n start : ℕ) : Type 0 where
+  pub there : within 1 (records words) n ≡ true
+  pub is : start ≡ 6 * (n - 1)
+  pub room : start + 6 ≤ length words
 
 -- these are the six words of the record n
 pub record Part (words : List ℕ) (n : ℕ) (part : List ℕ) : Type 0 where

@@ -3,7 +3,7 @@ ghost use mathlib.Core.Bool.{false};
 ghost use Rattle.std.specs.Options.{Cases};
 ghost use Rattle.rules.specs.Kinds.{within};
 ghost use Rattle.rules.specs.Words.{records, stands};
-ghost use Rattle.records.specs.Reads.{Part, Reads};
+ghost use Rattle.records.specs.Reads.{Part, Reads, Starts};
 use crate::kind::Kind;
 
 /// The six words of a record: what it is, its name, and the links to its first child and to the next of its chain.
@@ -22,15 +22,11 @@ impl Record {
     pub fn at(words: &[u32], n: u32) -> Option<Record>
         ensures { λ r. ⌜ Cases r (stands (now (words .entry)) n ≡ false) (Reads (now (words .entry)) n) ⌝ }
     {
-        let Some(part) = part_of(words, n) else {
-            return None;
-        };
+        let part = part_of(words, n)?;
         let [kind, flags, symbol, mark, first, next] = part else {
             return None;
         };
-        let Some(kind) = Kind::of(*kind) else {
-            return None;
-        };
+        let kind = Kind::of(*kind)?;
         Some(Record {
             kind,
             flags: *flags,
@@ -46,9 +42,17 @@ impl Record {
 fn part_of(words: &[u32], n: u32) -> Option<&[u32]>
     ensures { λ r. ⌜ Cases r (within 1 (records (now (words .entry))) n ≡ false) (λ part. Part (now (words .entry)) n (now part)) ⌝ }
 {
+    let start = start_of(words, n)?;
+    Some(&words[start..start + 6])
+}
+
+/// Where record `n` begins, if its six words are there.
+pub(crate) fn start_of(words: &[u32], n: u32) -> Option<usize>
+    ensures { λ r. ⌜ Cases r (within 1 (records (now (words .entry))) n ≡ false) (Starts (now (words .entry)) n) ⌝ }
+{
     let end = n as usize * 6;
     if n == 0 || end > words.len() {
         return None;
     }
-    Some(&words[end - 6..end])
+    Some(end - 6)
 }

@@ -1,6 +1,5 @@
-use native.Mathlib.Omega.{arith}
 use Rattle.records.proofs.Parts.{part-words}
 use Rattle.records.proofs.record.part_of.Needs as need
 
 pub returns : need.returns
-returns c = part-words (c .args .words .now) (c .args .n) (omega arith) (omega arith)
+returns c = part-words _ _ _ (c .in-Continue-start .ensures tt)
