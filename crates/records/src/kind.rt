@@ -6,7 +6,7 @@ ghost use Rattle.rules.specs.Kinds.{known, within, expression, statement, patte
 ghost use Rattle.records.specs.KindWords.{kind-word};
 
 /// What a record is. The number of a kind is the first word of its records.
-#[derive(Clone, Copy, Debug)]
+#[derive(Clone, Copy)]
 pub enum Kind {
     Module = 1,
     Script = 2,
@@ -107,6 +107,53 @@ impl Kind {
         ensures { λ r. ⌜ r ≡ kind-word self ⌝ }
     {
         self as u32
+    }
+
+    /// The kind in words, for a reader.
+    pub fn name(self) -> &'static str {
+        match self {
+            Kind::Module => "Module",
+            Kind::Script => "Script",
+            Kind::Import => "Import",
+            Kind::Specifier => "Specifier",
+            Kind::ExportDeclaration => "Export declaration",
+            Kind::ExportList => "Export list",
+            Kind::ExportName => "Export name",
+            Kind::ExportDefault => "Export default",
+            Kind::Empty => "Empty",
+            Kind::Block => "Block",
+            Kind::ExpressionStatement => "Expression statement",
+            Kind::PlainStatement => "Plain statement",
+            Kind::Try => "Try",
+            Kind::FnDeclaration => "Fn declaration",
+            Kind::ClassDeclaration => "Class declaration",
+            Kind::VarDeclaration => "Var declaration",
+            Kind::For => "For",
+            Kind::With => "With",
+            Kind::Catch => "Catch",
+            Kind::Declarator => "Declarator",
+            Kind::Function => "Function",
+            Kind::Class => "Class",
+            Kind::Method => "Method",
+            Kind::Property => "Property",
+            Kind::StaticBlock => "Static block",
+            Kind::Constructor => "Constructor",
+            Kind::Identifier => "Identifier",
+            Kind::Literal => "Literal",
+            Kind::FunctionExpression => "Function expression",
+            Kind::ClassExpression => "Class expression",
+            Kind::Arrow => "Arrow",
+            Kind::PlainExpression => "Plain expression",
+            Kind::Object => "Object",
+            Kind::Call => "Call",
+            Kind::Delete => "Delete",
+            Kind::Assignment => "Assignment",
+            Kind::NamePattern => "Name pattern",
+            Kind::CompoundPattern => "Compound pattern",
+            Kind::DefaultPattern => "Default pattern",
+            Kind::PropertyName => "Property name",
+            Kind::ExpressionPattern => "Expression pattern",
+        }
     }
 
     /// Whether the two kinds are one.
