@@ -2,7 +2,9 @@ ghost use mathlib.Core.Path.{_≡_};
 ghost use mathlib.Core.Bool.{false};
 ghost use Rattle.std.specs.Options.{Cases};
 ghost use Rattle.rules.specs.Kinds.{within};
-ghost use Rattle.rules.specs.Words.{records, stands};
+ghost use Rattle.rules.specs.Words.{records, stands, treeOf, Whole};
+ghost use Rattle.rules.specs.Tree.Chain.{end};
+ghost use Rattle.records.specs.Opened.{Opened};
 ghost use Rattle.records.specs.Reads.{Part, Reads, Starts};
 use crate::kind::Kind;
 
@@ -35,6 +37,13 @@ impl Record {
             first: *first,
             next: *next,
         })
+    }
+
+    /// The record that a link leads to. Where the chain from there on ends, that of its two links ends too.
+    pub fn linked(words: &[u32], link: u32) -> Option<Record>
+        ensures { λ r. ⌜ (Whole (now (words .entry)) link → Cases r (treeOf (now (words .entry)) link ≡ end) (Opened (now (words .entry)) link)) ⌝ }
+    {
+        Record::at(words, link)
     }
 }
 
