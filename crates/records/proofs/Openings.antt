@@ -16,7 +16,7 @@ use Rattle.rules.specs.Opening.{depth, siblings, Opens}
 use Rattle.rules.proofs.Reading.{tree-end, opens}
 use Rattle.rules.proofs.Sizes.{stands-positive}
 use Rattle.records.specs.Reads.{headOf, Reads}
-use Rattle.records.specs.Opened.{Opened}
+use Rattle.records.specs.Cursor.{Opened}
 use Rattle.records.specs.declared.record.Record.{Record}
 
 -- no record stands where a chain that ends has ended

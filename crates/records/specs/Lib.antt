@@ -1,4 +1,4 @@
 pub mod KindWords
 pub mod Reads
 pub mod Writes
-pub mod Opened
+pub mod Cursor

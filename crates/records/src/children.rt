@@ -3,7 +3,7 @@ ghost use Rattle.std.specs.Options.{Cases};
 ghost use Rattle.rules.specs.Tree.Chain.{end};
 ghost use Rattle.rules.specs.Words.{treeOf, Whole};
 ghost use Rattle.rules.specs.Opening.{siblings};
-ghost use Rattle.records.specs.Opened.{Opened};
+ghost use Rattle.records.specs.Cursor.{Opened};
 use crate::record::Record;
 
 /// The records of a chain in their order, each with its number, read from the words as it comes to them.

@@ -7,3 +7,6 @@ pub use children::Children;
 pub use children::ChildrenIterator;
 pub use kind::Kind;
 pub use record::Record;
+
+#[cfg(test)]
+mod tests;

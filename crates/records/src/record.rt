@@ -4,7 +4,7 @@ ghost use Rattle.std.specs.Options.{Cases};
 ghost use Rattle.rules.specs.Kinds.{within};
 ghost use Rattle.rules.specs.Words.{records, stands, treeOf, Whole};
 ghost use Rattle.rules.specs.Tree.Chain.{end};
-ghost use Rattle.records.specs.Opened.{Opened};
+ghost use Rattle.records.specs.Cursor.{Opened};
 ghost use Rattle.records.specs.Reads.{Part, Reads, Starts};
 use crate::kind::Kind;
 
