@@ -28,7 +28,7 @@ pub impl<'w> Iterator for Children<'w> as ChildrenIterator {
 
     ghost can = { λ s. Whole (s .words .now) (s .at) };
 
-    ghost steps = { λ s r t. (t .words .now ≡ s .words .now) × Cases r (treeOf (s .words .now) (s .at) ≡ end) (λ p. (p .0 ≡ s .at) × (t .at ≡ p .1 .next) × Opened (s .words .now) (p .0) (p .1)) };
+    ghost steps = { λ s r t. (t .words .now ≡ s .words .now) × Cases r ((treeOf (s .words .now) (s .at) ≡ end) × (t .at ≡ s .at)) (λ p. (p .0 ≡ s .at) × (t .at ≡ p .1 .next) × Opened (s .words .now) (p .0) (p .1)) };
 
     ghost ends = { λ _. Unit {0} };
 

@@ -39,9 +39,10 @@ impl Record {
         })
     }
 
-    /// The record that a link leads to. Where the chain from there on ends, that of its two links ends too.
+    /// The record that a link leads to, if there is one. Where the chain from the link on ends, it opens into the record and the chains of its own links.
     pub fn linked(words: &[u32], link: u32) -> Option<Record>
-        ensures { λ r. ⌜ (Whole (now (words .entry)) link → Cases r (treeOf (now (words .entry)) link ≡ end) (Opened (now (words .entry)) link)) ⌝ }
+        ensures reads { λ r. ⌜ Cases r (stands (now (words .entry)) link ≡ false) (Reads (now (words .entry)) link) ⌝ }
+        ensures opened { λ r. ⌜ (Whole (now (words .entry)) link → Cases r (treeOf (now (words .entry)) link ≡ end) (Opened (now (words .entry)) link)) ⌝ }
     {
         Record::at(words, link)
     }
