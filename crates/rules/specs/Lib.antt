@@ -5,6 +5,9 @@ pub mod Refusals
 pub mod Words
 pub mod Check
 pub mod Held
+pub mod Walks
+pub mod Opening
+pub mod Facts
 pub mod Names
 pub mod Counting
 pub mod Tables
