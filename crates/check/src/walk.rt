@@ -1,0 +1,70 @@
+ghost use mathlib.Core.Path.{_≡_};
+ghost use mathlib.Core.Bool.{true, false};
+ghost use mathlib.Core.List.{List};
+ghost use Prim.Native.Nat.{ℕ, _+_, _-_, _≤_};
+ghost use lib.ListN.{length, getD};
+ghost use Rattle.std.specs.Results.{Cases};
+ghost use Rattle.std.specs.Vec.{made};
+ghost use Rattle.rules.specs.Grammar.{may-end};
+ghost use Rattle.rules.specs.Refusals.Outcome.{refused};
+ghost use Rattle.rules.specs.Words.{records};
+ghost use Rattle.rules.specs.Walks.{full};
+ghost use Rattle.check.specs.Expecting.{ways};
+ghost use Rattle.check.specs.Faults.{number, place};
+ghost use Rattle.check.specs.Walking.{Marks, unmarked, Taken, Untaken, Walked};
+use crate::expected::Expected;
+use crate::fits::fits;
+use records::Record;
+
+/// How many words a record has.
+pub const RECORD_WORDS: usize = 6;
+
+/// The most records on a way down, the root included.
+pub const MOST_NESTING: u32 = 128;
+
+/// Why words are no tree, with the record or link at which it shows.
+#[derive(Clone, Copy)]
+pub enum CheckFault {
+    Lengths,
+    Link(u32),
+    Deep(u32),
+    Misfit(u32),
+}
+
+/// Where a chain stands: whose children its records are, how deep, and what is expected next.
+#[derive(Clone, Copy)]
+pub struct Siblings {
+    pub parent: u32,
+    pub nesting: u32,
+    pub expected: Expected,
+}
+
+impl Siblings {
+    /// The chain ends here, if nothing more has to come.
+    fn stop(self) -> Result<(), CheckFault>
+        ensures { λ r. ⌜ Cases r (λ _. may-end (ways (self .expected)) ≡ true) (λ e. (may-end (ways (self .expected)) ≡ false) × (number e ≡ 4) × (place e ≡ self .parent)) ⌝ }
+    {
+        if self.expected.may_end() { Ok(()) } else { Err(CheckFault::Misfit(self.parent)) }
+    }
+
+    /// Record `n` is taken as the next of the chain: the record, and what is expected after it.
+    fn take(self, words: &[u32], n: u32, seen: &[bool]) -> Result<(Record, Expected), CheckFault>
+        requires low { ⌜ 1 ≤ n ⌝ }
+        requires room { ⌜ records (now words) ≤ length (now seen) ⌝ }
+        ensures { λ r. ⌜ Cases r (λ p. Taken (now (words .entry)) n (self .nesting) (ways (self .expected)) (now (seen .entry)) (p .0) (ways (p .1))) (λ e. Untaken (now (words .entry)) n (self .nesting) (ways (self .expected)) (now (seen .entry)) e) ⌝ }
+    {
+        if n as usize > words.len() / RECORD_WORDS || seen[n as usize - 1] {
+            return Err(CheckFault::Link(n));
+        }
+        if self.nesting > MOST_NESTING {
+            return Err(CheckFault::Deep(n));
+        }
+        let Some(node) = Record::at(words, n) else {
+            return Err(CheckFault::Misfit(n));
+        };
+        match self.expected.after(node.kind) {
+            Some(next) if fits(node) => Ok((node, next)),
+            _ => Err(CheckFault::Misfit(n)),
+        }
+    }
+}
