@@ -31,27 +31,19 @@ pub enum CheckFault {
     Misfit(u32),
 }
 
-/// Where a chain stands: whose children its records are, how deep, and what is expected next.
+/// A chain of records on the walk: whose children they are, and how deep they stand.
 #[derive(Clone, Copy)]
 pub struct Siblings {
     pub parent: u32,
     pub nesting: u32,
-    pub expected: Expected,
 }
 
 impl Siblings {
-    /// The chain ends here, if nothing more has to come.
-    fn stop(self) -> Result<(), CheckFault>
-        ensures { λ r. ⌜ Cases r (λ _. may-end (ways (self .expected)) ≡ true) (λ e. (may-end (ways (self .expected)) ≡ false) × (number e ≡ 4) × (place e ≡ self .parent)) ⌝ }
-    {
-        if self.expected.may_end() { Ok(()) } else { Err(CheckFault::Misfit(self.parent)) }
-    }
-
-    /// Record `n` is taken as the next of the chain: the record, and what is expected after it.
-    fn take(self, words: &[u32], n: u32, seen: &[bool]) -> Result<(Record, Expected), CheckFault>
+    /// Record `n` is the next of the chain: the record, and what is expected after it.
+    fn take(self, words: &[u32], n: u32, expected: Expected, seen: &[bool]) -> Result<(Record, Expected), CheckFault>
         requires low { ⌜ 1 ≤ n ⌝ }
         requires room { ⌜ records (now words) ≤ length (now seen) ⌝ }
-        ensures { λ r. ⌜ Cases r (λ p. Taken (now (words .entry)) n (self .nesting) (ways (self .expected)) (now (seen .entry)) (p .0) (ways (p .1))) (λ e. Untaken (now (words .entry)) n (self .nesting) (ways (self .expected)) (now (seen .entry)) e) ⌝ }
+        ensures { λ r. ⌜ Cases r (λ p. Taken (now (words .entry)) n (self .nesting) (ways expected) (now (seen .entry)) (p .0) (ways (p .1))) (λ e. Untaken (now (words .entry)) n (self .nesting) (ways expected) (now (seen .entry)) e) ⌝ }
     {
         if n as usize > words.len() / RECORD_WORDS || seen[n as usize - 1] {
             return Err(CheckFault::Link(n));
@@ -62,9 +54,37 @@ impl Siblings {
         let Some(node) = Record::at(words, n) else {
             return Err(CheckFault::Misfit(n));
         };
-        match self.expected.after(node.kind) {
+        match expected.after(node.kind) {
             Some(next) if fits(node) => Ok((node, next)),
             _ => Err(CheckFault::Misfit(n)),
         }
     }
+
+    /// The chain ends, if nothing more has to come.
+    fn stop(self, expected: Expected) -> Result<(), CheckFault>
+        ensures { λ r. ⌜ Cases r (λ _. may-end (ways expected) ≡ true) (λ e. (may-end (ways expected) ≡ false) × (e ≡ CheckFault.Misfit (self .parent))) ⌝ }
+    {
+        if expected.may_end() { Ok(()) } else { Err(CheckFault::Misfit(self.parent)) }
+    }
+}
+
+/// Walks the chain from the link `first` on, with all that is under its records: how many records that is.
+pub fn chain(words: &[u32], first: u32, siblings: Siblings, mut expected: Expected, seen: &mut [bool]) -> Result<usize, CheckFault>
+    requires deep { ⌜ siblings .nesting ≤ 129 ⌝ }
+    requires room { ⌜ records (now words) ≤ length (now seen) ⌝ }
+    ensures left { λ r. ⌜ made r (λ k. k + unmarked (now (seen .exit)) ≡ unmarked (now (seen .entry))) ⌝ }
+    ensures is { λ r. ⌜ ((before : List ℕ) → Marks (now (seen .entry)) before → Cases r (λ k. Walked (now (words .entry)) first (siblings .nesting) (ways expected) (siblings .parent) before (now (seen .exit)) k) (λ e. full (now (words .entry)) first (siblings .nesting) (ways expected) (siblings .parent) before ≡ refused (number e) (place e))) ⌝ }
+{
+    let mut count = 0;
+    let mut at = first;
+    while at != 0 {
+        let (node, next) = siblings.take(words, at, expected, seen)?;
+        seen[at as usize - 1] = true;
+        let children = Siblings { parent: at, nesting: siblings.nesting + 1 };
+        count += 1 + chain(words, node.first, children, Expected::under(node), seen)?;
+        at = node.next;
+        expected = next;
+    }
+    siblings.stop(expected)?;
+    Ok(count)
 }
