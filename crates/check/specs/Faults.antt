@@ -3,8 +3,8 @@
 --   number, place      the refusal's number and its record
 use Prim.Native.Nat.{ℕ}
 use Rattle.rules.specs.Refusals.{bad-lengths, bad-link, too-deep, bad-record}
-use Rattle.check.specs.declared.walk.CheckFault.{CheckFault}
-use Rattle.check.specs.declared.walk.CheckFault.the-variants.{Lengths, Link, Deep, Misfit}
+use Rattle.check.specs.declared.fault.CheckFault.{CheckFault}
+use Rattle.check.specs.declared.fault.CheckFault.the-variants.{Lengths, Link, Deep, Misfit}
 
 -- a fault's number
 abbrev pub number : CheckFault → ℕ

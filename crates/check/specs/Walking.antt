@@ -18,7 +18,7 @@ use Rattle.rules.specs.Walks.{full}
 use Rattle.records.specs.Reads.{Reads}
 use Rattle.records.specs.declared.record.Record.{Record}
 use Rattle.check.specs.Faults.{number, place}
-use Rattle.check.specs.declared.walk.CheckFault.{CheckFault}
+use Rattle.check.specs.declared.fault.CheckFault.{CheckFault}
 
 -- the records marked are those reached: mark k is that of record k + 1
 unfoldable pub Marks : List Bool → List ℕ → Type 0

@@ -1,6 +1,4 @@
 ghost use mathlib.Core.Path.{_≡_};
-ghost use mathlib.Core.Bool.{cond};
-ghost use Rattle.std.specs.declared.option.Option.the-variants.{Some, None};
 ghost use Rattle.rules.specs.Grammar.{children-of, step, may-end};
 ghost use Rattle.records.specs.KindWords.{kind-word};
 ghost use Rattle.records.specs.Reads.{headOf};
@@ -10,7 +8,7 @@ use records::Record;
 
 /// What may follow in a chain of children: each variant names what is expected next.
 #[derive(Clone, Copy)]
-pub enum Expected {
+pub(crate) enum Expected {
     Root,
     Nothing,
     Items,
@@ -58,7 +56,7 @@ pub enum Expected {
 
 impl Expected {
     /// What is expected first under a record.
-    pub fn under(parent: Record) -> Expected
+    pub(crate) fn under(parent: Record) -> Expected
         ensures { λ r. ⌜ ways r ≡ children-of (headOf 0 parent) ⌝ }
     {
         let flagged = parent.flags == 1;
@@ -113,7 +111,7 @@ impl Expected {
     }
 
     /// Whether the chain may end here.
-    pub fn may_end(self) -> bool
+    pub(crate) fn may_end(self) -> bool
         ensures { λ r. ⌜ r ≡ may-end (ways self) ⌝ }
     {
         match self {
@@ -137,72 +135,65 @@ impl Expected {
         }
     }
     /// What is expected after a child of this kind, or nothing if it is misplaced.
-    pub fn after(self, kind: Kind) -> Option<Expected>
+    pub(crate) fn after(self, kind: Kind) -> Option<Expected>
         ensures { λ r. ⌜ ways-after r ≡ step (kind-word kind) (ways self) ⌝ }
     {
         match self {
-            Expected::Root => when(kind.is(Kind::Module) || kind.is(Kind::Script), Expected::Nothing),
+            Expected::Root => (kind.is(Kind::Module) || kind.is(Kind::Script)).then_some(Expected::Nothing),
             Expected::Nothing | Expected::ForDone => None,
-            Expected::Items => when(kind.is_item(), Expected::Items),
-            Expected::Statements => when(kind.is_statement(), Expected::Statements),
-            Expected::Specifiers => when(kind.is(Kind::Specifier), Expected::Specifiers),
-            Expected::OneDeclaration => when(kind.is_declaration(), Expected::Nothing),
-            Expected::ExportNames => when(kind.is(Kind::ExportName), Expected::ExportNames),
-            Expected::OneDefinition => when(kind.is_definition_expression(), Expected::Nothing),
-            Expected::OneExpression => when(kind.is_expression(), Expected::Nothing),
-            Expected::MaybeExpression => when(kind.is_expression(), Expected::Nothing),
-            Expected::Expressions => when(kind.is_expression(), Expected::Expressions),
-            Expected::OneStatement => when(kind.is_statement(), Expected::Nothing),
+            Expected::Items => kind.is_item().then_some(Expected::Items),
+            Expected::Statements => kind.is_statement().then_some(Expected::Statements),
+            Expected::Specifiers => kind.is(Kind::Specifier).then_some(Expected::Specifiers),
+            Expected::OneDeclaration => kind.is_declaration().then_some(Expected::Nothing),
+            Expected::ExportNames => kind.is(Kind::ExportName).then_some(Expected::ExportNames),
+            Expected::OneDefinition => kind.is_definition_expression().then_some(Expected::Nothing),
+            Expected::OneExpression => kind.is_expression().then_some(Expected::Nothing),
+            Expected::MaybeExpression => kind.is_expression().then_some(Expected::Nothing),
+            Expected::Expressions => kind.is_expression().then_some(Expected::Expressions),
+            Expected::OneStatement => kind.is_statement().then_some(Expected::Nothing),
             Expected::PlainParts if kind.is_expression() => Some(Expected::PlainStatements),
-            Expected::PlainParts => when(kind.is_statement(), Expected::PlainLast),
-            Expected::PlainStatements => when(kind.is_statement(), Expected::PlainLast),
-            Expected::PlainLast => when(kind.is_statement(), Expected::Nothing),
-            Expected::TryBlock => when(kind.is(Kind::Block), Expected::TryHandler),
+            Expected::PlainParts => kind.is_statement().then_some(Expected::PlainLast),
+            Expected::PlainStatements => kind.is_statement().then_some(Expected::PlainLast),
+            Expected::PlainLast => kind.is_statement().then_some(Expected::Nothing),
+            Expected::TryBlock => kind.is(Kind::Block).then_some(Expected::TryHandler),
             Expected::TryHandler if kind.is(Kind::Catch) => Some(Expected::MaybeBlock),
-            Expected::TryHandler => when(kind.is(Kind::Block), Expected::Nothing),
-            Expected::MaybeBlock => when(kind.is(Kind::Block), Expected::Nothing),
-            Expected::OneBlock => when(kind.is(Kind::Block), Expected::Nothing),
-            Expected::OneFunction => when(kind.is(Kind::Function), Expected::Nothing),
-            Expected::OneClass => when(kind.is(Kind::Class), Expected::Nothing),
-            Expected::Declarators => when(kind.is(Kind::Declarator), Expected::MoreDeclarators),
-            Expected::MoreDeclarators => when(kind.is(Kind::Declarator), Expected::MoreDeclarators),
+            Expected::TryHandler => kind.is(Kind::Block).then_some(Expected::Nothing),
+            Expected::MaybeBlock => kind.is(Kind::Block).then_some(Expected::Nothing),
+            Expected::OneBlock => kind.is(Kind::Block).then_some(Expected::Nothing),
+            Expected::OneFunction => kind.is(Kind::Function).then_some(Expected::Nothing),
+            Expected::OneClass => kind.is(Kind::Class).then_some(Expected::Nothing),
+            Expected::Declarators => kind.is(Kind::Declarator).then_some(Expected::MoreDeclarators),
+            Expected::MoreDeclarators => kind.is(Kind::Declarator).then_some(Expected::MoreDeclarators),
             Expected::ForHead if kind.is(Kind::VarDeclaration) => Some(Expected::ForAfterVar),
             Expected::ForHead if kind.is_pattern() => Some(Expected::ForAfterPattern),
             Expected::ForHead | Expected::ForAfterVar | Expected::ForAfterPattern if kind.is_expression() => {
                 Some(Expected::ForSecond)
             }
             Expected::ForHead | Expected::ForAfterVar | Expected::ForAfterPattern => {
-                when(kind.is_statement(), Expected::Nothing)
+                kind.is_statement().then_some(Expected::Nothing)
             }
             Expected::ForSecond if kind.is_expression() => Some(Expected::ForThird),
             Expected::ForThird if kind.is_expression() => Some(Expected::OneStatement),
-            Expected::ForSecond | Expected::ForThird => when(kind.is_statement(), Expected::ForDone),
-            Expected::WithObject => when(kind.is_expression(), Expected::OneStatement),
+            Expected::ForSecond | Expected::ForThird => kind.is_statement().then_some(Expected::ForDone),
+            Expected::WithObject => kind.is_expression().then_some(Expected::OneStatement),
             Expected::CatchPattern if kind.is_pattern() => Some(Expected::OneBlock),
-            Expected::CatchPattern => when(kind.is(Kind::Block), Expected::Nothing),
-            Expected::DeclaratorPattern => when(kind.is_pattern(), Expected::MaybeExpression),
+            Expected::CatchPattern => kind.is(Kind::Block).then_some(Expected::Nothing),
+            Expected::DeclaratorPattern => kind.is_pattern().then_some(Expected::MaybeExpression),
             Expected::Parameters if kind.is_pattern() => Some(Expected::Parameters),
-            Expected::Parameters => when(kind.is(Kind::Block), Expected::Nothing),
-            Expected::Superclass => when(kind.is_expression(), Expected::Members),
-            Expected::Members => when(kind.is_class_member(), Expected::Members),
-            Expected::MethodKey => when(kind.is_expression(), Expected::OneFunction),
-            Expected::PropertyKey => when(kind.is_expression(), Expected::MaybeExpression),
+            Expected::Parameters => kind.is(Kind::Block).then_some(Expected::Nothing),
+            Expected::Superclass => kind.is_expression().then_some(Expected::Members),
+            Expected::Members => kind.is_class_member().then_some(Expected::Members),
+            Expected::MethodKey => kind.is_expression().then_some(Expected::OneFunction),
+            Expected::PropertyKey => kind.is_expression().then_some(Expected::MaybeExpression),
             Expected::ArrowParameters if kind.is_pattern() => Some(Expected::ArrowParameters),
-            Expected::ArrowParameters => when(kind.is(Kind::Block) || kind.is_expression(), Expected::Nothing),
-            Expected::Callee => when(kind.is_expression(), Expected::Expressions),
+            Expected::ArrowParameters => (kind.is(Kind::Block) || kind.is_expression()).then_some(Expected::Nothing),
+            Expected::Callee => kind.is_expression().then_some(Expected::Expressions),
             Expected::AssignmentTarget if kind.is(Kind::CompoundPattern) => Some(Expected::OneExpression),
             Expected::AssignmentTarget | Expected::UpdateTarget => {
-                when(kind.is(Kind::NamePattern) || kind.is(Kind::PlainExpression), Expected::OneExpression)
+                (kind.is(Kind::NamePattern) || kind.is(Kind::PlainExpression)).then_some(Expected::OneExpression)
             }
-            Expected::PatternParts => when(kind.is_pattern() || kind.is(Kind::PropertyName), Expected::PatternParts),
-            Expected::DefaultedPattern => when(kind.is_pattern(), Expected::OneExpression),
+            Expected::PatternParts => (kind.is_pattern() || kind.is(Kind::PropertyName)).then_some(Expected::PatternParts),
+            Expected::DefaultedPattern => kind.is_pattern().then_some(Expected::OneExpression),
         }
     }
-}
-
-/// The expectation, if the test holds.
-fn when(test: bool, expected: Expected) -> Option<Expected>
-    ensures { λ r. ⌜ r ≡ cond test (Some expected) None ⌝ }
-{
-    if test { Some(expected) } else { None }
 }

@@ -6,7 +6,7 @@ use records::Kind;
 use records::Record;
 
 /// Whether a record's flags, symbol and mark are such as its kind has.
-pub fn fits(node: Record) -> bool
+pub(crate) fn fits(node: Record) -> bool
     ensures { λ r. ⌜ r ≡ words-fit (headOf 0 node) ⌝ }
 {
     flags_fit(node) && name_fits(node)

@@ -8,14 +8,15 @@ ghost use Rattle.rules.specs.Words.{next};
 ghost use Rattle.rules.specs.Check.{check as checked, tree-fits};
 ghost use Rattle.check.specs.Faults.{number, place};
 ghost use Rattle.check.specs.Accepting.{Accepted};
-pub mod expected;
-pub mod fits;
-pub mod walk;
+mod expected;
+pub mod fault;
+mod fits;
+mod walk;
 
+pub use fault::CheckFault;
 use expected::Expected;
 use walk::RECORD_WORDS;
 use walk::Siblings;
-pub use walk::CheckFault;
 
 /// Which word of a record links to the next of its chain.
 const NEXT: usize = 5;

@@ -13,29 +13,21 @@ ghost use Rattle.check.specs.Expecting.{ways};
 ghost use Rattle.check.specs.Faults.{number, place};
 ghost use Rattle.check.specs.Walking.{Marks, unmarked, Taken, Untaken, Walked};
 use crate::expected::Expected;
+use crate::fault::CheckFault;
 use crate::fits::fits;
 use records::Record;
 
 /// How many words a record has.
-pub const RECORD_WORDS: usize = 6;
+pub(crate) const RECORD_WORDS: usize = 6;
 
 /// The most records on a way down, the root included.
-pub const MOST_NESTING: u32 = 128;
-
-/// Why words are no tree, with the record or link at which it shows.
-#[derive(Clone, Copy)]
-pub enum CheckFault {
-    Lengths,
-    Link(u32),
-    Deep(u32),
-    Misfit(u32),
-}
+pub(crate) const MOST_NESTING: u32 = 128;
 
 /// A chain of records on the walk: whose children they are, and how deep they stand.
 #[derive(Clone, Copy)]
-pub struct Siblings {
-    pub parent: u32,
-    pub nesting: u32,
+pub(crate) struct Siblings {
+    pub(crate) parent: u32,
+    pub(crate) nesting: u32,
 }
 
 impl Siblings {
@@ -69,7 +61,7 @@ impl Siblings {
 }
 
 /// Walks the chain from the link `first` on, with all that is under its records: how many records that is.
-pub fn chain(words: &[u32], first: u32, siblings: Siblings, mut expected: Expected, seen: &mut [bool]) -> Result<usize, CheckFault>
+pub(crate) fn chain(words: &[u32], first: u32, siblings: Siblings, mut expected: Expected, seen: &mut [bool]) -> Result<usize, CheckFault>
     requires deep { ⌜ siblings .nesting ≤ 129 ⌝ }
     requires room { ⌜ records (now words) ≤ length (now seen) ⌝ }
     ensures left { λ r. ⌜ made r (λ k. k + unmarked (now (seen .exit)) ≡ unmarked (now (seen .entry))) ⌝ }
