@@ -2,3 +2,5 @@ pub mod Sizes
 pub mod Fuel
 pub mod Sounds
 pub mod Reading
+pub mod SameNames
+pub mod Leading

@@ -12,6 +12,7 @@ pub mod Names
 pub mod Counting
 pub mod Tables
 pub mod Rings
+pub mod Reaching
 pub mod Judges
 pub mod Removal
 pub mod Calls
