@@ -1,28 +1,23 @@
 -- The root stays, and so the words of what is left are checked as the words of what was found: fit, held, each record once, not too deep
 -- and formed by the table of kinds are what the check asks for.
 --
---   root-verdict, keeps-root      the root's list is swept, or the root is not entered
---   checked-again                 the theorem
+--   done-root, treated-root      a record of a root's kind stays
+--   keeps-root, checked-again    the theorems
 use Prim.Native.Nat.{ℕ}
-use native.Mathlib.Omega.{arith}
 use mathlib.Core.Path.{_≡_, refl, sym, ap, subst}
 use mathlib.Core.Bool.{Bool, true, false, _||_}
-use mathlib.Core.List.{List, [], _∷_}
-use mathlib.Core.Logic.{_⊎_, inl, inr, ⊎-elim}
+use mathlib.Core.List.{List, []}
 use lib.Dec.{eqb}
-use lib.ListN.{length}
-use Rattle.std.proofs.shelf.Tests.{both-ways, or-cases, eqb-true}
-use Rattle.rules.specs.Tree.{Head, Chain, _is_, isEnd}
+use Rattle.std.proofs.shelf.Tests.{both-ways}
+use Rattle.rules.specs.Tree.{Head, Chain, append}
 use Rattle.rules.specs.Tree.Chain.{end, link}
 use Rattle.rules.specs.Kinds.{module-root, script-root}
-use Rattle.rules.specs.Grammar.{Way, root}
 use Rattle.rules.specs.Words.{next, Holds}
 use Rattle.rules.specs.Check.{tree-fits}
-use Rattle.rules.specs.Held.{Formed}
-use Rattle.rules.specs.Removal.{By, Place, Left, Verdict, at-root, place-inside, entered, has-list, verdict, done, treated, treat}
+use Rattle.rules.specs.Removal.{By, Place, Left, Verdict, at-root, place-inside, entered, verdict, done, treated, treat}
 use Rattle.rules.specs.Removal.Verdict.{stays, sweeps, empties, unlinks, restates, yields, unwraps}
 use Rattle.rules.proofs.Sounds.{check-sound, check-complete}
-use Rattle.laws.specs.KeepsTree.{Root-kept, Keeps-root, Checked-again}
+use Rattle.laws.specs.KeepsTree.{Keeps-root, Checked-again}
 use Rattle.laws.proofs.KeepsMeans.{Means, means, Emptied, Unlinked}
 use Rattle.laws.proofs.KeepsMeans.Emptied.{fn, class, importing, var}
 use Rattle.laws.proofs.KeepsMeans.Unlinked.{declaring, specifying}
@@ -68,7 +63,7 @@ keeps-root by end f = absurd (both-ways false refl f)
 keeps-root by (link h children end) f =
   let inner = treat by (place-inside at-root h) children in
   let t = treated-root by at-root h (one-first root-kind [] h children end f .0) (entered at-root h children true) children inner in
-  record { head = h; children = children; remaining = t .0; found-is = refl; left-is = ap (λ (d : Chain). Rattle.rules.specs.Tree.append d end) (t .1) }
+  record { head = h; children = children; remaining = t .0; found-is = refl; left-is = ap (λ (d : Chain). append d end) (t .1) }
 keeps-root by (link h children (link g under rest)) f = absurd (both-ways true (one-first root-kind [] h children (link g under rest) f .1 .1) refl)
 
 -- nothing follows the one record that words hold

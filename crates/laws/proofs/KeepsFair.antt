@@ -12,12 +12,12 @@ use mathlib.Core.Bool.{Bool, true, false, cond, not, _&&_, _||_}
 use mathlib.Core.List.{List, [], _∷_, _++_}
 use mathlib.Core.Logic.{⊎-elim}
 use lib.Dec.{eqb}
-use Rattle.std.proofs.shelf.Tests.{cond-both, and-parts, and-from, both-ways, or-cases, or-left, or-right, not-true, eqb-true}
+use Rattle.std.proofs.shelf.Tests.{cond-both, and-parts, and-from, both-ways, or-cases, or-left, not-true, eqb-true}
 use Rattle.rules.specs.Tree.{if_then_else_}
-use Rattle.rules.specs.Kinds.{member, import-item, specifier, empty-statement, expression-statement, fn-declaration, class-declaration, var-declaration, declarator, identifier, literal, function-expression, class-expression, arrow, plain-expression, object, call-expression, delete-expression, assignment}
+use Rattle.rules.specs.Kinds.{member, specifier, empty-statement, expression-statement, var-declaration, declarator, identifier, literal, function-expression, class-expression, arrow, plain-expression, object, call-expression, delete-expression, assignment}
 use Rattle.rules.specs.Grammar.{Part, Way, go-on, step}
 use Rattle.rules.specs.Grammar.Part.{one, maybe, many}
-use Rattle.laws.proofs.KeepsWays.{Within, within-none, within-append, within-same}
+use Rattle.laws.proofs.KeepsWays.{Within, within-none, within-append}
 use Rattle.laws.proofs.KeepsWays.Within.{none, both, more}
 
 -- the kinds that a removal may put in the place of a kind: an expression for an Assignment, an Object for a Call, else a statement

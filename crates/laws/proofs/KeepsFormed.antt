@@ -2,31 +2,34 @@
 -- a record that stays keeps its place, and its children are formed by induction; one that gives way does so to a stand-in, whose ways on
 -- are among its own; one that is unlinked stood where any number may stand.
 --
---   wrapped-formed, yielded-formed      the Object of a wrapped Call, the value of an Assignment
---   var-inward                          a Var that lost its Declarators is not exported
---   done-formed, treat-formed           one record; a chain
---   keeps-formed                        the theorem
+--   Whole, First-whole, first-whole, below-whole      a record as the table has it; the first record of a chain
+--   wraps-first, expression-stands, children-swept    an Object is wrapped; an expression is a stand-in; swept children
+--   yielded-formed, unwrapped-formed                  what takes the place of an Assignment, and of a wrapped Call
+--   done-formed                                       what is left of one record, and what follows
+--   entered-last, var-inward                          a Var that is entered in a For, and one that lost its Declarators
+--   treat-formed, keeps-formed                        a chain; the theorem
 use Prim.Native.Nat.{ℕ}
 use native.Mathlib.Omega.{arith}
 use mathlib.Core.Path.{_≡_, refl, sym, subst}
 use mathlib.Core.Bool.{Bool, true, false, not, _&&_, _||_}
 use mathlib.Core.List.{List, [], _∷_}
-use mathlib.Core.Logic.{_⊎_, inl, inr, ⊎-elim}
+use mathlib.Core.Logic.{⊎-elim}
 use lib.Dec.{eqb}
 use Rattle.std.proofs.shelf.Tests.{both-ways, cases-bool, and-parts, or-cases, or-parts, not-true, not-false, eqb-true}
 use Rattle.std.proofs.shelf.Ways.{tells}
 use Rattle.rules.specs.Tree.{Head, Chain, _is_, isEnd, below, after, first-is, first-flagged, first-symbol, alone, append}
 use Rattle.rules.specs.Tree.Chain.{end, link}
-use Rattle.rules.specs.Kinds.{member, module-root, script-root, import-item, empty-statement, block, expression-statement, fn-declaration, class-declaration, var-declaration, for-statement, with-statement, export-default, delete-expression, declarator, specifier, object, call-expression, assignment, function-expression, plain-statement, name-pattern, expression, statement, item}
-use Rattle.rules.specs.Grammar.{Way, words-fit, assigned, children-of, step, misplaced, root}
-use Rattle.rules.specs.Grammar.Part.{one, maybe, many}
+use Rattle.rules.specs.Kinds.{member, module-root, script-root, import-item, empty-statement, block, expression-statement, fn-declaration, class-declaration, var-declaration, for-statement, with-statement, export-default, delete-expression, declarator, specifier, object, call-expression, assignment, function-expression, plain-statement, expression, statement, item}
+use Rattle.rules.specs.Grammar.{Way, words-fit, assigned, children-of, step, root}
+use Rattle.rules.specs.Grammar.Part.{one}
 use Rattle.rules.specs.Held.{Formed}
-use Rattle.rules.specs.Removal.{By, Place, Left, Verdict, at-root, place-inside, entered, has-list, wraps-object, wrapped-object, returns-object, swept, var-emptied, become, joined, verdict, done, treated, treat}
+use Rattle.rules.specs.Removal.{By, Place, Left, Verdict, at-root, place-inside, entered, has-list, wraps-object, wrapped-object, returns-object, swept, verdict, done, treated, treat}
 use Rattle.rules.specs.Removal.Verdict.{stays, sweeps, empties, unlinks, restates, yields, unwraps}
 use Rattle.laws.specs.KeepsTree.{Keeps-formed}
 use Rattle.laws.proofs.KeepsMeans.{Means, means, Emptied, Unlinked}
 use Rattle.laws.proofs.KeepsMeans.Emptied.{fn, class, importing, var}
 use Rattle.laws.proofs.KeepsMeans.Unlinked.{declaring, specifying}
+use Rattle.laws.proofs.KeepsWays.{formed-filled}
 use Rattle.laws.proofs.KeepsFair.{stand-ins}
 use Rattle.laws.proofs.KeepsTable.{Ready, Stands, declarators, inner-ways, ready-fair, ready-inside, swap-moving, swap-declaring, swap-var, drop-ready}
 use Rattle.laws.proofs.KeepsTable.Ready.{anywhere}
@@ -155,11 +158,6 @@ end-last : (by : By) (p : Place) (c : Chain) → isEnd c ≡ true → treat by p
 end-last by p end e = refl
 end-last by p (link h children rest) e = absurd (both-ways false refl e)
 
--- a Var has a Declarator
-var-filled : (h : Head) (c : Chain) → h .kind ≡ var-declaration → Formed (children-of h) c → isEnd c ≡ false
-var-filled h end k f = absurd (both-ways false refl (rw k at f))
-var-filled h (link d parts rest) k f = refl
-
 -- the Declarators of an exported Var are exported
 export-inside : (p : Place) (h : Head) → h .kind ≡ var-declaration → p .in-export ≡ true → place-inside p h .in-export ≡ true
 export-inside p h k x = rw (k, x)
@@ -171,7 +169,7 @@ var-inward by p h children f k e =
   let q = place-inside p h in
   let g : Formed declarators children = rw k at (inner-formed h children f) in
   ⊎-elim
-    (λ x. absurd (both-ways (isEnd (treat by q children .chain)) (exported-filled by q (export-inside p h k x) children g (var-filled h children k f)) e))
+    (λ x. absurd (both-ways (isEnd (treat by q children .chain)) (exported-filled by q (export-inside p h k x) children g (formed-filled (children-of h) children (rw k) f)) e))
     (λ x. x) (cases-bool (p .in-export))
 
 pub treat-formed : (by : By) (p : Place) (ways : List Way) (c : Chain) → Ready p ways → Formed ways c → Formed ways (treat by p c .chain)

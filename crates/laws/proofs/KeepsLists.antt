@@ -1,20 +1,20 @@
 -- Chains of any number of records of one sort: what their records are, how one is made, and that sweeping keeps it so.
 -- A Var's children are such a chain that has a record.
 --
---   list-of, listed, list-link      any number of a sort; the first record of such a chain; one more record
---   one-left, one-taken             what a part that asks for one record takes
+--   list-of, listed, list-link      any number of a sort; the first record of such a chain, and the others; one more record
 --   swept-formed                    sweeping
+--   one-first, one-link             the same of one record of a sort before a way
 --   inner-formed, children-formed   a record's children as they are treated, and as the table has them
 use Prim.Native.Nat.{ℕ}
 use mathlib.Core.Path.{_≡_, refl, sym, subst}
-use mathlib.Core.Bool.{Bool, true, false, cond, _&&_, _||_}
-use mathlib.Core.List.{List, [], _∷_, _++_}
+use mathlib.Core.Bool.{Bool, true, false, _&&_, _||_}
+use mathlib.Core.List.{List, [], _∷_}
 use mathlib.Core.Logic.{⊎-elim}
 use Rattle.std.proofs.shelf.Tests.{cond-both, cond-false, both-ways, cases-bool, and-from, eqb-true}
-use Rattle.rules.specs.Tree.{Head, Chain, if_then_else_, _is_, isEnd}
+use Rattle.rules.specs.Tree.{Head, Chain, _is_, isEnd}
 use Rattle.rules.specs.Tree.Chain.{end, link}
 use Rattle.rules.specs.Kinds.{empty-statement, block, var-declaration, declarator, only}
-use Rattle.rules.specs.Grammar.{Way, words-fit, children-of, step, misplaced, may-end}
+use Rattle.rules.specs.Grammar.{Way, words-fit, children-of, step, misplaced}
 use Rattle.rules.specs.Grammar.Part.{one, many}
 use Rattle.rules.specs.Held.{Formed}
 use Rattle.rules.specs.Removal.{swept, var-emptied}
@@ -24,15 +24,10 @@ use Rattle.laws.proofs.KeepsTable.{declarators, inner-ways}
 abbrev pub list-of : (ℕ → Bool) → List Way
 list-of sort = (many sort ∷ []) ∷ []
 
--- a test that was passed
-pub passed : (b : Bool) (ways : List Way) → misplaced (cond b ways []) ≡ false → b ≡ true
-passed true ways e = refl
-passed false ways e = absurd (both-ways true e refl)
-
-pub list-step : (sort : ℕ → Bool) (k : ℕ) → sort k ≡ true → step k (list-of sort) ≡ list-of sort
+list-step : (sort : ℕ → Bool) (k : ℕ) → sort k ≡ true → step k (list-of sort) ≡ list-of sort
 list-step sort k e = rw e
 
-pub list-taken : (sort : ℕ → Bool) (k : ℕ) → misplaced (step k (list-of sort)) ≡ false → sort k ≡ true
+list-taken : (sort : ℕ → Bool) (k : ℕ) → misplaced (step k (list-of sort)) ≡ false → sort k ≡ true
 list-taken sort k e =
   ⊎-elim (λ x. x) (λ x. absurd (both-ways true (rw x at e) refl)) (cases-bool (sort k))
 
@@ -57,12 +52,11 @@ swept-formed sort (link h children rest) f =
   cond-both (h is empty-statement || (h is block && isEnd children)) (swept rest) (link h children (swept rest)) (λ (d : Chain). Formed (list-of sort) d)
     (λ _. s) (λ _. list-link sort h children (swept rest) (l .0) (f .0) (f .2) s)
 
--- one record of a sort, then a way
-pub one-taken : (sort : ℕ → Bool) (way : Way) (k : ℕ) → misplaced (step k ((one sort ∷ way) ∷ [])) ≡ false → sort k ≡ true
+one-taken : (sort : ℕ → Bool) (way : Way) (k : ℕ) → misplaced (step k ((one sort ∷ way) ∷ [])) ≡ false → sort k ≡ true
 one-taken sort way k e =
   ⊎-elim (λ x. x) (λ x. absurd (both-ways true (rw x at e) refl)) (cases-bool (sort k))
 
-pub one-step : (sort : ℕ → Bool) (way : Way) (k : ℕ) → sort k ≡ true → step k ((one sort ∷ way) ∷ []) ≡ way ∷ []
+one-step : (sort : ℕ → Bool) (way : Way) (k : ℕ) → sort k ≡ true → step k ((one sort ∷ way) ∷ []) ≡ way ∷ []
 one-step sort way k e = rw e
 
 -- the first record is of the sort, and the others go the way

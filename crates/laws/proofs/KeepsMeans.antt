@@ -2,15 +2,12 @@
 --
 --   Emptied, Unlinked, Restated, Yielded, Unwrapped      what a record is that becomes Empty, is unlinked, ..
 --   Means, means                                         of each verdict; of the verdict that is reached
-use Prim.Native.Nat.{ℕ}
-use mathlib.Core.Path.{_≡_, refl}
-use mathlib.Core.Bool.{Bool, true, false, not, _&&_}
-use mathlib.Core.List.{List}
-use mathlib.Core.Logic.{_⊎_, inl, inr}
+use mathlib.Core.Path.{_≡_}
+use mathlib.Core.Bool.{true, false, not}
 use Rattle.std.proofs.shelf.Tests.{cond-both, and-parts, not-true, eqb-true}
-use Rattle.rules.specs.Tree.{Head, Chain, Name, _is_, flagged, nameOf, isEnd, below, after, first-is, first-name}
+use Rattle.rules.specs.Tree.{Head, Chain, _is_, flagged, isEnd, first-is}
 use Rattle.rules.specs.Kinds.{import-item, specifier, fn-declaration, class-declaration, var-declaration, declarator, call-expression, assignment, name-pattern}
-use Rattle.rules.specs.Removal.{By, Place, Verdict, has-list, all-go, wraps-object, can-drop-binding, keeps-class, first-acts, can-drop-assignment-to, name-goes, fn-goes, class-goes, declarator-goes, specifier-goes, import-emptied, var-emptied, var-restates, assignment-yields, call-unwraps, verdict}
+use Rattle.rules.specs.Removal.{By, Place, Verdict, has-list, all-go, wraps-object, fn-goes, class-goes, declarator-goes, specifier-goes, import-emptied, var-emptied, var-restates, assignment-yields, call-unwraps, verdict}
 use Rattle.rules.specs.Removal.Verdict.{stays, sweeps, empties, unlinks, restates, yields, unwraps}
 
 -- a record that becomes Empty: a declaration that is not exported, an Import that had children, or a Var without any left

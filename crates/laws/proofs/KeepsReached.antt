@@ -1,25 +1,26 @@
 -- No record is made, so that no more are reached; and each removal loses one. Only a declaration that becomes Empty without a child
 -- would lose none: the table of kinds gives each Fn, Class and Var a child.
 --
---   reached-..                       the pieces that are moved
---   children-filled                  a record whose first part is one child has a child
---   Shrinks, done-shrinks            no more are left, and fewer where something was removed
---   fewer-reached, lost-reached      the theorems
-use Prim.Native.Nat.{ℕ, _+_, _≤_, _<_}
+--   reached-append .. reached-wrapped      the pieces that are moved
+--   reached-restated                       a Var that becomes an Expression statement loses its names
+--   emptied-filled                         what becomes Empty has a child
+--   done-reached, fewer-reached            no more are left: one record; a chain
+--   done-lost, lost-reached                fewer are left where something was removed: one record; a chain
+use Prim.Native.Nat.{_+_, _≤_, _<_}
 use native.Mathlib.Omega.{arith}
-use mathlib.Core.Path.{_≡_, refl, sym, subst}
-use mathlib.Core.Bool.{Bool, true, false, not, _&&_, _||_}
-use mathlib.Core.List.{List, [], _∷_}
-use mathlib.Core.Logic.{_⊎_, inl, inr, ⊎-elim}
+use mathlib.Core.Path.{_≡_, refl}
+use mathlib.Core.Bool.{Bool, true, false, _&&_, _||_}
+use mathlib.Core.Logic.{⊎-elim}
 use Rattle.std.proofs.shelf.Tests.{cond-both, and-parts, both-ways, or-cases}
-use Rattle.rules.specs.Tree.{Head, Chain, _is_, flagged, isEnd, below, after, first-is, first-name, alone, append, reached}
+use Rattle.rules.specs.Tree.{Head, Chain, _is_, flagged, isEnd, below, after, first-is, alone, append, reached}
 use Rattle.rules.specs.Tree.Chain.{end, link}
-use Rattle.rules.specs.Kinds.{empty-statement, block, plain-expression, name-pattern, fn-declaration, class-declaration, var-declaration}
-use Rattle.rules.specs.Grammar.{Way, children-of, step, may-end}
+use Rattle.rules.specs.Kinds.{empty-statement, block, plain-expression, name-pattern}
+use Rattle.rules.specs.Grammar.{children-of, step, may-end}
 use Rattle.rules.specs.Held.{Formed}
 use Rattle.rules.specs.Removal.{By, Place, Left, Verdict, place-inside, entered, swept, wrapped-object, become, values, joined, done, verdict, treated, treat, all-go, name-goes}
 use Rattle.rules.specs.Removal.Verdict.{stays, sweeps, empties, unlinks, restates, yields, unwraps}
 use Rattle.laws.specs.KeepsTree.{Fewer-reached, Lost-reached}
+use Rattle.laws.proofs.KeepsWays.{formed-filled}
 use Rattle.laws.proofs.KeepsMeans.{Means, means, Emptied}
 use Rattle.laws.proofs.KeepsMeans.Emptied.{fn, class, importing, var}
 
@@ -84,12 +85,7 @@ reached-restated by p is-var (link d parts rest) e g =
   cond-both (isEnd (after all)) all (link (become plain-expression d) all end) (λ (x : Chain). reached x < reached (link d parts rest))
     (λ _. omega arith) (λ _. omega arith)
 
--- a chain that may not end where it begins has a record
-formed-filled : (ways : List Way) (c : Chain) → may-end ways ≡ false → Formed ways c → isEnd c ≡ false
-formed-filled ways end e f = absurd (both-ways (may-end ways) e f)
-formed-filled ways (link h children rest) e f = refl
-
-children-filled : (h : Head) (c : Chain) → (may-end (children-of h) ≡ false) → Formed (children-of h) c → 1 ≤ reached c
+children-filled : (h : Head) (c : Chain) → may-end (children-of h) ≡ false → Formed (children-of h) c → 1 ≤ reached c
 children-filled h c e f = filled-reached c (formed-filled (children-of h) c e f)
 
 -- a record that becomes Empty has a child

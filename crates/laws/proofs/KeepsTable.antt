@@ -10,8 +10,8 @@
 --   swap-moving, swap-declaring, swap-var, drop-ready      what gives way to a stand-in, or is unlinked, leaves the chain formed
 use Prim.Native.Nat.{ℕ}
 use mathlib.Core.Path.{_≡_, refl, sym, subst}
-use mathlib.Core.Bool.{Bool, true, false, _||_}
-use mathlib.Core.List.{List, [], _∷_, _++_}
+use mathlib.Core.Bool.{true, false, _||_}
+use mathlib.Core.List.{List, [], _∷_}
 use mathlib.Core.Logic.{⊎-elim}
 use lib.Dec.{eqb}
 use Rattle.std.proofs.shelf.Tests.{cond-both, both-ways, or-left, or-right, or-cases, eqb-true}
@@ -22,7 +22,7 @@ use Rattle.rules.specs.Grammar.{Way, item-children, statement-children, part-ch
 use Rattle.rules.specs.Grammar.Part.{one, maybe, many}
 use Rattle.rules.specs.Held.{Formed}
 use Rattle.rules.specs.Removal.{Place, place-inside}
-use Rattle.laws.proofs.KeepsWays.{Within, within-none, within-placed, formed-within}
+use Rattle.laws.proofs.KeepsWays.{Within, within-placed, formed-within}
 use Rattle.laws.proofs.KeepsFair.{stand-ins, unlinkable, fair, fair-append, fair-cond, fair-on, fair-step, fair-swap, fair-drop}
 
 -- the kinds that give way, in an Export declaration too

@@ -6,20 +6,20 @@
 --   exported-filled                of exported Declarators one is left
 --   First-kept, first-kept         the first one that is left was not to go
 --   values-formed, joined-formed   the values are expressions, and they join to one
---   restated-formed                what a Var becomes has its child
+--   kept-valued, restated-formed   one that stays although its name can go has a value; what a Var becomes has its child
 use Prim.Native.Nat.{ℕ}
 use native.Mathlib.Omega.{arith}
 use mathlib.Core.Path.{_≡_, refl, sym, subst, _∙_}
 use mathlib.Core.Bool.{Bool, true, false, not, _&&_, _||_}
 use mathlib.Core.List.{List, [], _∷_}
-use mathlib.Core.Logic.{_⊎_, inl, inr, ⊎-elim}
+use mathlib.Core.Logic.{⊎-elim}
 use lib.Dec.{eqb}
 use Rattle.std.proofs.shelf.Tests.{cond-both, both-ways, cases-bool, and-parts, and-from, eq-eqb, eqb-true, not-from-false}
-use Rattle.rules.specs.Tree.{Head, Chain, _is_, flagged, isEnd, below, after, alone, append}
+use Rattle.rules.specs.Tree.{Head, Chain, _is_, flagged, isEnd, after, alone, append}
 use Rattle.rules.specs.Tree.Chain.{end, link}
 use Rattle.rules.specs.Kinds.{expression, pattern, plain-expression, var-declaration, for-statement, with-statement, declarator, only}
 use Rattle.rules.specs.Grammar.{Way, children-of, step, misplaced}
-use Rattle.rules.specs.Grammar.Part.{one, maybe, many}
+use Rattle.rules.specs.Grammar.Part.{one, maybe}
 use Rattle.rules.specs.Held.{Formed}
 use Rattle.rules.specs.Removal.{By, Place, Left, Verdict, place-inside, entered, has-list, first-acts, name-goes, all-go, declarator-goes, become, values, joined, verdict, done, treated, treat}
 use Rattle.rules.specs.Removal.Verdict.{stays, sweeps, empties, unlinks, restates, yields, unwraps}

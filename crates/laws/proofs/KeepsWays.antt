@@ -4,13 +4,14 @@
 --   Within                                    some of the ways, in their order
 --   within-same, within-none, within-front, within-append, within-step
 --   within-ends, within-placed, formed-within      more ways form more chains
+--   formed-filled                             a chain that may not end where it begins has a record
 use Prim.Native.Nat.{ℕ}
 use mathlib.Core.Path.{_≡_, refl}
-use mathlib.Core.Bool.{Bool, true, false, _||_}
+use mathlib.Core.Bool.{true, false}
 use mathlib.Core.List.{List, [], _∷_, _++_}
 use mathlib.Core.Logic.{⊎-elim}
 use Rattle.std.proofs.shelf.Tests.{both-ways, or-cases, or-left, or-right}
-use Rattle.rules.specs.Tree.{Head, Chain}
+use Rattle.rules.specs.Tree.{Chain, isEnd}
 use Rattle.rules.specs.Tree.Chain.{end, link}
 use Rattle.rules.specs.Grammar.{Way, go-on, step, misplaced, ends, may-end}
 use Rattle.rules.specs.Held.{Formed}
@@ -59,3 +60,7 @@ formed-within end w f = within-ends w f
 formed-within (link h children rest) w f =
   let onward = within-step (h .kind) w in
   (f .0, within-placed onward (f .1), f .2, formed-within rest onward (f .3))
+
+pub formed-filled : (ways : List Way) (c : Chain) → may-end ways ≡ false → Formed ways c → isEnd c ≡ false
+formed-filled ways end e f = absurd (both-ways (may-end ways) e f)
+formed-filled ways (link h children rest) e f = refl
