@@ -1,8 +1,8 @@
 -- What is left of a tree formed by the table of kinds is so formed. By induction over the chain, at ways that bear a removal:
--- a record that stays keeps its place, and its children are formed by induction; one that gives way does so to a stand-in, whose ways on
--- are among its own; one that is unlinked stood where any number may stand.
+-- a record that stays keeps its place, and its children are formed by induction; one that gives way does so to a stand-in, among
+-- whose ways on are its own; one that is unlinked stood where any number may stand.
 --
---   Whole, First-whole, first-whole, below-whole      a record as the table has it; the first record of a chain
+--   Record-formed, First-formed                       a record as the table has it; the first record of a chain
 --   wraps-first, expression-stands, children-swept    an Object is wrapped; an expression is a stand-in; swept children
 --   yielded-formed, unwrapped-formed                  what takes the place of an Assignment, and of a wrapped Call
 --   done-formed                                       what is left of one record, and what follows
@@ -37,25 +37,25 @@ use Rattle.laws.proofs.KeepsLists.{list-of, swept-formed, one-first, inner-for
 use Rattle.laws.proofs.KeepsValues.{exported-filled, First-kept, first-kept, restated-formed}
 
 -- a record as the table has it
-pub record Whole (h : Head) (children : Chain) : Type 0 where
+pub record Record-formed (h : Head) (children : Chain) : Type 0 where
   pub fit : words-fit h ≡ true
   pub formed : Formed (children-of h) children
 
 -- the first record of a chain
-abbrev First-whole : Chain → Type 0
-First-whole end = Unit {0}
-First-whole (link h children rest) = Whole h children
+abbrev First-formed : Chain → Type 0
+First-formed end = Unit {0}
+First-formed (link h children rest) = Record-formed h children
 
-first-whole : (ways : List Way) (c : Chain) → Formed ways c → First-whole c
-first-whole ways end f = tt
-first-whole ways (link h children rest) f = record { fit = f .0; formed = f .2 }
+first-formed : (ways : List Way) (c : Chain) → Formed ways c → First-formed c
+first-formed ways end f = tt
+first-formed ways (link h children rest) f = record { fit = f .0; formed = f .2 }
 
-below-whole : (c : Chain) → First-whole c → First-whole (below c)
-below-whole end w = tt
-below-whole (link h children rest) w = first-whole (children-of h) children (w .formed)
+below-formed : (c : Chain) → First-formed c → First-formed (below c)
+below-formed end w = tt
+below-formed (link h children rest) w = first-formed (children-of h) children (w .formed)
 
--- a record is put in the place of one of kind k
-put : (ways : List Way) (h : Head) (children onward : Chain) → Whole h children → Stands ways (h .kind) onward → Formed ways (link h children onward)
+-- such a record stands where its kind may
+put : (ways : List Way) (h : Head) (children onward : Chain) → Record-formed h children → Stands ways (h .kind) onward → Formed ways (link h children onward)
 put ways h children onward w s = (w .fit, s .0, w .formed, s .1)
 
 -- what a Call wraps is an Object
@@ -101,11 +101,13 @@ module _ (ways : List Way) (onward : Chain) where
     put ways v inside onward (record { fit = p .0; formed = p .2 }) (s (v .kind) (one-first expression [] v inside rest p .0))
 
   -- the Object of a wrapped Call takes its place
-  unwrapped-formed : (c : Chain) → first-is object c ≡ true → First-whole c → Stands ways object onward → Formed ways (append (alone c) onward)
+  unwrapped-formed : (c : Chain) → first-is object c ≡ true → First-formed c → Stands ways object onward → Formed ways (append (alone c) onward)
   unwrapped-formed end g w s = absurd (both-ways false refl g)
   unwrapped-formed (link o inside rest) g w s =
     put ways o inside onward w (subst (λ (k : ℕ). Stands ways k onward) (sym (eqb-true (o .kind) object g)) s)
 
+-- what is left of one record: its children are left formed, and so is what follows it. Of a Var: it is a For's last child if it stands
+-- in one, it is not exported if its Declarators went, and the first that is left was not to go.
 module _ (by : By) (p : Place) (ways : List Way) (h : Head) (found : Chain) (ready : Ready p ways) (fit : words-fit h ≡ true)
     (inner : Left) (within : Formed (inner-ways h) (inner .chain)) (onward : Chain) (stands : Stands ways (h .kind) onward)
     (last : h .kind ≡ var-declaration → p .parent ≡ for-statement → onward ≡ end)
@@ -116,11 +118,11 @@ module _ (by : By) (p : Place) (ways : List Way) (h : Head) (found : Chain) (rea
   stands-as : (k : ℕ) → h .kind ≡ k → Stands ways k onward
   stands-as k e = subst (λ (j : ℕ). Stands ways j onward) e stands
 
-  emptied-formed : Emptied p h found (inner .chain) → Stands ways empty-statement onward
-  emptied-formed (fn k x) = swap-declaring p ways onward fn-declaration empty-statement refl refl x ready (stands-as fn-declaration k)
-  emptied-formed (class k x) = swap-declaring p ways onward class-declaration empty-statement refl refl x ready (stands-as class-declaration k)
-  emptied-formed (importing k x) = swap-moving p ways onward import-item empty-statement refl refl ready (stands-as import-item k)
-  emptied-formed (var k x) = swap-var p ways onward empty-statement refl (inward k x) (last k) ready (stands-as var-declaration k)
+  emptied-stands : Emptied p h found (inner .chain) → Stands ways empty-statement onward
+  emptied-stands (fn k x) = swap-declaring p ways onward fn-declaration empty-statement refl refl x ready (stands-as fn-declaration k)
+  emptied-stands (class k x) = swap-declaring p ways onward class-declaration empty-statement refl refl x ready (stands-as class-declaration k)
+  emptied-stands (importing k x) = swap-moving p ways onward import-item empty-statement refl refl ready (stands-as import-item k)
+  emptied-stands (var k x) = swap-var p ways onward empty-statement refl (inward k x) (last k) ready (stands-as var-declaration k)
 
   unlinked-formed : Unlinked p h → Formed ways onward
   unlinked-formed (declaring k x) = drop-ready p ways onward declarator refl ready (stands-as declarator k .1)
@@ -129,7 +131,7 @@ module _ (by : By) (p : Place) (ways : List Way) (h : Head) (found : Chain) (rea
   done-formed : (v : Verdict) → Means by p h found (inner .chain) v → Formed ways (append (done v h inner .chain) onward)
   done-formed stays m = (fit, stands .0, children-formed h (inner .chain) (m .filled) within, stands .1)
   done-formed sweeps m = (fit, stands .0, children-swept h (inner .chain) m within, stands .1)
-  done-formed (empties names) m = let s = emptied-formed m in (refl, s .0, refl, s .1)
+  done-formed (empties names) m = let s = emptied-stands m in (refl, s .0, refl, s .1)
   done-formed (unlinks name) m = unlinked-formed m
   done-formed restates m =
     let k = m .kind in
@@ -141,7 +143,7 @@ module _ (by : By) (p : Place) (ways : List Way) (h : Head) (found : Chain) (rea
       (λ j e. swap-moving p ways onward assignment j refl (expression-stands j e) ready (stands-as assignment k))
   done-formed unwraps m =
     let c = inner .chain in
-    let whole = below-whole (below (below (below c))) (below-whole (below (below c)) (below-whole (below c) (below-whole c (first-whole (inner-ways h) c within)))) in
+    let whole = below-formed (below (below (below c))) (below-formed (below (below c)) (below-formed (below c) (below-formed c (first-formed (inner-ways h) c within)))) in
     unwrapped-formed ways onward (wrapped-object c) (wraps-first c (m .wraps)) whole
       (swap-moving p ways onward call-expression object refl refl ready (stands-as call-expression (m .kind)))
 
