@@ -1,0 +1,11 @@
+pub mod KeepsMeans
+pub mod KeepsCount
+pub mod KeepsLevel
+pub mod KeepsReached
+pub mod KeepsWays
+pub mod KeepsFair
+pub mod KeepsTable
+pub mod KeepsLists
+pub mod KeepsValues
+pub mod KeepsFormed
+pub mod KeepsChecked
