@@ -20,14 +20,14 @@ use Rattle.records.specs.Cursor.{Opened}
 use Rattle.records.specs.declared.record.Record.{Record}
 
 -- no record stands where a chain that ends has ended
-none-ends : (words : List ℕ) (n : ℕ) → Whole words n → stands words n ≡ false → treeOf words n ≡ end
+pub none-ends : (words : List ℕ) (n : ℕ) → Whole words n → stands words n ≡ false → treeOf words n ≡ end
 none-ends words n whole s =
     ⊎-elim
     (λ (z : n ≡ 0). tree-end words n z)
     (λ (z : n ≡ 0 → ⊥). absurd (both-ways (stands words n) s (opens words n (omega arith) whole .standing)))
     (cases-eq n 0)
 
-reads-opens : (words : List ℕ) (n : ℕ) (r : Record) → Whole words n → Reads words n r → Opened words n r
+pub reads-opens : (words : List ℕ) (n : ℕ) (r : Record) → Whole words n → Reads words n r → Opened words n r
 reads-opens words n r whole reads =
     let low = stands-positive words n (reads .there) in
     let o = opens words n low whole in

@@ -8,41 +8,17 @@ use crate::write::set_next;
 use crate::write::turn_into;
 use std::test::*;
 
-/// A Module of an Empty, a Block and an Expression statement, in which an Identifier stands.
-fn module() -> [u32; 30]
+/// A Module of an Empty, a Fn declaration and a Block.
+fn module() -> [u32; 36]
     ensures { λ r. ⌜ Whole r 2 ⌝ }
 {
     [
-        1,
-        0,
-        0,
-        0,
-        2,
-        0, // 1
-        9,
-        0,
-        0,
-        0,
-        0,
-        3, // 2
-        10,
-        0,
-        0,
-        0,
-        0,
-        4, // 3
-        11,
-        0,
-        0,
-        0,
-        5,
-        0, // 4
-        27,
-        0,
-        7,
-        2,
-        0,
-        0, // 5
+        1, 0, 0, 0, 2, 0, // 1 Module
+        9, 0, 0, 0, 0, 3, // 2 Empty
+        14, 0, 7, 2, 5, 4, // 3 Fn declaration
+        10, 0, 0, 0, 0, 0, // 4 Block
+        21, 1, 0, 0, 6, 0, // 5 Function
+        10, 0, 0, 0, 0, 0, // 6 Block
     ]
 }
 
@@ -51,23 +27,21 @@ fn kinds_have_words() -> Result<(), Fail> {
     let kind = Kind::of(14).ok_or("14 is a kind")?;
     check(kind.is(Kind::FnDeclaration))?;
     check_eq(kind.name(), "Fn declaration")?;
-    check(kind.is_statement() && kind.is_item() && kind.is_declaration())?;
-    check(!kind.is_expression() && !kind.is_pattern())?;
-    check(Kind::of(0).is_none() && Kind::of(42).is_none())
+    check(kind.is_declaration())?;
+    check(!kind.is_expression())?;
+    check(Kind::of(0).is_none())?;
+    check(Kind::of(42).is_none())
 }
 
 #[test]
 fn a_record_is_read() -> Result<(), Fail> {
     let words = module();
-    let record = Record::at(&words, 5).ok_or("record 5 is there")?;
-    check(record.kind.is(Kind::Identifier))?;
-    check_eq(record.flags, 0)?;
-    check_eq(record.symbol, 7)?;
-    check_eq(record.mark, 2)?;
-    let record = Record::at(&words, 2).ok_or("record 2 is there")?;
-    check_eq(record.first, 0)?;
-    check_eq(record.next, 3)?;
-    check(Record::at(&words, 0).is_none() && Record::at(&words, 6).is_none())
+    let record = Record::at(&words, 3).ok_or("record 3 is there")?;
+    check(record.kind.is(Kind::FnDeclaration))?;
+    check_eq((record.flags, record.symbol, record.mark), (0, 7, 2))?;
+    check_eq((record.first, record.next), (5, 4))?;
+    check(Record::at(&words, 0).is_none())?;
+    check(Record::at(&words, 7).is_none())
 }
 
 #[test]
@@ -88,41 +62,17 @@ fn children_come_in_order() -> Result<(), Fail> {
 fn links_and_kinds_are_written() -> Result<(), Fail> {
     let mut words = module();
     set_next(&mut words, 2, 4);
-    set_first(&mut words, 4, 0);
-    turn_into(&mut words, 5, Kind::Literal);
+    set_first(&mut words, 5, 0);
+    turn_into(&mut words, 3, Kind::Empty);
     set_next(&mut words, 0, 9);
-    set_first(&mut words, 6, 9);
+    set_first(&mut words, 7, 9);
     let after = [
-        1,
-        0,
-        0,
-        0,
-        2,
-        0, // 1
-        9,
-        0,
-        0,
-        0,
-        0,
-        4, // 2
-        10,
-        0,
-        0,
-        0,
-        0,
-        4, // 3
-        11,
-        0,
-        0,
-        0,
-        0,
-        0, // 4
-        28,
-        0,
-        0,
-        0,
-        0,
-        0, // 5
+        1, 0, 0, 0, 2, 0, // 1 Module
+        9, 0, 0, 0, 0, 4, // 2 Empty
+        9, 0, 0, 0, 5, 4, // 3 Empty
+        10, 0, 0, 0, 0, 0, // 4 Block
+        21, 1, 0, 0, 0, 0, // 5 Function
+        10, 0, 0, 0, 0, 0, // 6 Block
     ];
     check(words == after)
 }
