@@ -167,21 +167,21 @@ impl Kind {
     pub fn is_expression(self) -> bool
         ensures { λ r. ⌜ r ≡ expression (kind-word self) ⌝ }
     {
-        self.lies(Kind::Identifier, Kind::Assignment)
+        self.is_between(Kind::Identifier, Kind::Assignment)
     }
 
     /// Whether such a record is a statement.
     pub fn is_statement(self) -> bool
         ensures { λ r. ⌜ r ≡ statement (kind-word self) ⌝ }
     {
-        self.lies(Kind::Empty, Kind::With)
+        self.is_between(Kind::Empty, Kind::With)
     }
 
     /// Whether such a record is a pattern. A Property name is none by itself.
     pub fn is_pattern(self) -> bool
         ensures { λ r. ⌜ r ≡ pattern (kind-word self) ⌝ }
     {
-        self.lies(Kind::NamePattern, Kind::DefaultPattern) || self.is(Kind::ExpressionPattern)
+        self.is_between(Kind::NamePattern, Kind::DefaultPattern) || self.is(Kind::ExpressionPattern)
     }
 
     /// Whether such a record may stand in a Module.
@@ -199,14 +199,14 @@ impl Kind {
     pub fn is_declaration(self) -> bool
         ensures { λ r. ⌜ r ≡ declaration (kind-word self) ⌝ }
     {
-        self.lies(Kind::FnDeclaration, Kind::VarDeclaration)
+        self.is_between(Kind::FnDeclaration, Kind::VarDeclaration)
     }
 
     /// Whether such a record may stand in a Class.
     pub fn is_class_member(self) -> bool
         ensures { λ r. ⌜ r ≡ class-member (kind-word self) ⌝ }
     {
-        self.lies(Kind::Method, Kind::Constructor)
+        self.is_between(Kind::Method, Kind::Constructor)
     }
 
     /// Whether such a record is a function or class expression.
@@ -217,7 +217,7 @@ impl Kind {
     }
 
     /// Whether the kind stands between two others, or is one of them.
-    fn lies(self, low: Kind, high: Kind) -> bool
+    fn is_between(self, low: Kind, high: Kind) -> bool
         ensures { λ r. ⌜ r ≡ within (kind-word low) (kind-word high) (kind-word self) ⌝ }
     {
         low.word() <= self.word() && self.word() <= high.word()

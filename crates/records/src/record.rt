@@ -2,7 +2,9 @@ ghost use mathlib.Core.Path.{_≡_};
 ghost use mathlib.Core.Bool.{false};
 ghost use Rattle.std.specs.Options.{Cases};
 ghost use Rattle.rules.specs.Kinds.{within};
-ghost use Rattle.rules.specs.Words.{records, stands};
+ghost use Rattle.rules.specs.Words.{records, stands, treeOf, Whole};
+ghost use Rattle.rules.specs.Tree.Chain.{end};
+ghost use Rattle.records.specs.Cursor.{Opened};
 ghost use Rattle.records.specs.Reads.{Part, Reads, Starts};
 use crate::kind::Kind;
 
@@ -35,6 +37,14 @@ impl Record {
             first: *first,
             next: *next,
         })
+    }
+
+    /// The record that a link leads to, if there is one. Where the chain from the link on ends, it opens into the record and the chains of its own links.
+    pub fn linked(words: &[u32], link: u32) -> Option<Record>
+        ensures reads { λ r. ⌜ Cases r (stands (now (words .entry)) link ≡ false) (Reads (now (words .entry)) link) ⌝ }
+        ensures opened { λ r. ⌜ (Whole (now (words .entry)) link → Cases r (treeOf (now (words .entry)) link ≡ end) (Opened (now (words .entry)) link)) ⌝ }
+    {
+        Record::at(words, link)
     }
 }
 
