@@ -2,7 +2,7 @@
 --
 --   accepted, denied      the walk was fine; it was refused
 use Prim.Native.Nat.{ℕ}
-use mathlib.Core.Path.{_≡_, sym, ap, subst, _∙_}
+use mathlib.Core.Path.{_≡_, sym, ap, _∙_}
 use mathlib.Core.Bool.{Bool, true}
 use mathlib.Core.List.{List, []}
 use lib.Dec.{eqb}
@@ -13,7 +13,6 @@ use Rattle.rules.specs.Refusals.Outcome.{fine, refused}
 use Rattle.rules.specs.Words.{next, treeOf}
 use Rattle.rules.specs.Check.{check, tree-fits}
 use Rattle.rules.specs.Walks.{full}
-use Rattle.rules.specs.Held.{Tree}
 use Rattle.rules.proofs.Sounds.{check-sound}
 use Rattle.rules.proofs.Reading.{tree-is-read, tree-depth}
 use Rattle.check.specs.Walking.{Walked}

@@ -2,7 +2,7 @@
 --
 --   mark-of               the mark of a record says whether it was reached
 --   marks-none, marks-set, unmarked-none, unmarked-set      no mark set; one more
-use Prim.Native.Nat.{ℕ, zero, suc, _+_, _-_, _≤_, _<_}
+use Prim.Native.Nat.{ℕ, zero, suc, _-_, _≤_, _<_}
 use mathlib.Core.Path.{_≡_, refl, sym, ap, subst, _∙_}
 use mathlib.Core.Bool.{Bool, true, false, _||_}
 use mathlib.Core.List.{List, [], _∷_}

@@ -6,7 +6,7 @@ ghost use Rattle.check.specs.Expecting.{ways, ways-after};
 use records::Kind;
 use records::Record;
 
-/// What may follow in a chain of children: each variant names what is expected next.
+/// What may follow in a chain of children. Each variant names what is expected next, and so says what may come after that.
 #[derive(Clone, Copy)]
 pub(crate) enum Expected {
     Root,
@@ -23,6 +23,7 @@ pub(crate) enum Expected {
     OneStatement,
     PlainParts,
     PlainStatements,
+    /// One statement of a Plain statement has come.
     PlainLast,
     TryBlock,
     TryHandler,
@@ -33,10 +34,14 @@ pub(crate) enum Expected {
     Declarators,
     MoreDeclarators,
     ForHead,
+    /// A Var declaration has come, which is the head, or the statement if nothing follows.
     ForAfterVar,
     ForAfterPattern,
+    /// One expression of a For has come.
     ForSecond,
+    /// Two have come.
     ForThird,
+    /// The statement of a For has come.
     ForDone,
     WithObject,
     CatchPattern,
@@ -49,6 +54,7 @@ pub(crate) enum Expected {
     ArrowParameters,
     Callee,
     AssignmentTarget,
+    /// The target of a compound assignment, as `+=` is.
     UpdateTarget,
     PatternParts,
     DefaultedPattern,
@@ -139,7 +145,9 @@ impl Expected {
         ensures { λ r. ⌜ ways-after r ≡ step (kind-word kind) (ways self) ⌝ }
     {
         match self {
-            Expected::Root => (kind.is(Kind::Module) || kind.is(Kind::Script)).then_some(Expected::Nothing),
+            Expected::Root => (kind.is(Kind::Module) || kind.is(Kind::Script)).then_some(
+                Expected::Nothing,
+            ),
             Expected::Nothing | Expected::ForDone => None,
             Expected::Items => kind.is_item().then_some(Expected::Items),
             Expected::Statements => kind.is_statement().then_some(Expected::Statements),
@@ -162,19 +170,21 @@ impl Expected {
             Expected::OneBlock => kind.is(Kind::Block).then_some(Expected::Nothing),
             Expected::OneFunction => kind.is(Kind::Function).then_some(Expected::Nothing),
             Expected::OneClass => kind.is(Kind::Class).then_some(Expected::Nothing),
-            Expected::Declarators => kind.is(Kind::Declarator).then_some(Expected::MoreDeclarators),
-            Expected::MoreDeclarators => kind.is(Kind::Declarator).then_some(Expected::MoreDeclarators),
+            Expected::Declarators => kind.is(Kind::Declarator)
+                .then_some(Expected::MoreDeclarators),
+            Expected::MoreDeclarators => kind.is(Kind::Declarator)
+                .then_some(Expected::MoreDeclarators),
             Expected::ForHead if kind.is(Kind::VarDeclaration) => Some(Expected::ForAfterVar),
             Expected::ForHead if kind.is_pattern() => Some(Expected::ForAfterPattern),
-            Expected::ForHead | Expected::ForAfterVar | Expected::ForAfterPattern if kind.is_expression() => {
-                Some(Expected::ForSecond)
-            }
+            Expected::ForHead | Expected::ForAfterVar | Expected::ForAfterPattern
+                if kind.is_expression() => { Some(Expected::ForSecond) }
             Expected::ForHead | Expected::ForAfterVar | Expected::ForAfterPattern => {
                 kind.is_statement().then_some(Expected::Nothing)
             }
             Expected::ForSecond if kind.is_expression() => Some(Expected::ForThird),
             Expected::ForThird if kind.is_expression() => Some(Expected::OneStatement),
-            Expected::ForSecond | Expected::ForThird => kind.is_statement().then_some(Expected::ForDone),
+            Expected::ForSecond | Expected::ForThird => kind.is_statement()
+                .then_some(Expected::ForDone),
             Expected::WithObject => kind.is_expression().then_some(Expected::OneStatement),
             Expected::CatchPattern if kind.is_pattern() => Some(Expected::OneBlock),
             Expected::CatchPattern => kind.is(Kind::Block).then_some(Expected::Nothing),
@@ -186,13 +196,21 @@ impl Expected {
             Expected::MethodKey => kind.is_expression().then_some(Expected::OneFunction),
             Expected::PropertyKey => kind.is_expression().then_some(Expected::MaybeExpression),
             Expected::ArrowParameters if kind.is_pattern() => Some(Expected::ArrowParameters),
-            Expected::ArrowParameters => (kind.is(Kind::Block) || kind.is_expression()).then_some(Expected::Nothing),
+            Expected::ArrowParameters => (kind.is(Kind::Block) || kind.is_expression()).then_some(
+                Expected::Nothing,
+            ),
             Expected::Callee => kind.is_expression().then_some(Expected::Expressions),
-            Expected::AssignmentTarget if kind.is(Kind::CompoundPattern) => Some(Expected::OneExpression),
+            Expected::AssignmentTarget if kind.is(Kind::CompoundPattern) => Some(
+                Expected::OneExpression,
+            ),
             Expected::AssignmentTarget | Expected::UpdateTarget => {
-                (kind.is(Kind::NamePattern) || kind.is(Kind::PlainExpression)).then_some(Expected::OneExpression)
+                (kind.is(Kind::NamePattern) || kind.is(Kind::PlainExpression)).then_some(
+                    Expected::OneExpression,
+                )
             }
-            Expected::PatternParts => (kind.is_pattern() || kind.is(Kind::PropertyName)).then_some(Expected::PatternParts),
+            Expected::PatternParts => (kind.is_pattern() || kind.is(Kind::PropertyName)).then_some(
+                Expected::PatternParts,
+            ),
             Expected::DefaultedPattern => kind.is_pattern().then_some(Expected::OneExpression),
         }
     }

@@ -8,13 +8,14 @@ ghost use Rattle.rules.specs.Words.{next};
 ghost use Rattle.rules.specs.Check.{check as checked, tree-fits};
 ghost use Rattle.check.specs.Faults.{number, place};
 ghost use Rattle.check.specs.Accepting.{Accepted};
+
 mod expected;
 pub mod fault;
 mod fits;
 mod walk;
 
-pub use fault::CheckFault;
 use expected::Expected;
+pub use fault::CheckFault;
 use walk::RECORD_WORDS;
 use walk::Siblings;
 
@@ -41,7 +42,16 @@ pub fn check(words: &[u32]) -> Result<u32, CheckFault>
         return Err(CheckFault::Misfit(ROOT));
     }
     let mut seen = [false; MOST_RECORDS];
-    let count = walk::chain(words, ROOT, Siblings { parent: 0, nesting: 1 }, Expected::Root, &mut seen)?;
+    let count = walk::chain(
+        words,
+        ROOT,
+        Siblings {
+            parent: 0,
+            nesting: 1,
+        },
+        Expected::Root,
+        &mut seen,
+    )?;
     Ok(count as u32)
 }
 

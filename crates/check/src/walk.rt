@@ -1,13 +1,14 @@
 ghost use mathlib.Core.Path.{_≡_};
 ghost use mathlib.Core.Bool.{true, false};
 ghost use mathlib.Core.List.{List};
-ghost use Prim.Native.Nat.{ℕ, _+_, _-_, _≤_};
-ghost use lib.ListN.{length, getD};
+ghost use Prim.Native.Nat.{ℕ, suc, _+_, _≤_};
+ghost use lib.ListN.{length};
 ghost use Rattle.std.specs.Results.{Cases};
 ghost use Rattle.std.specs.Vec.{made};
 ghost use Rattle.rules.specs.Grammar.{may-end};
 ghost use Rattle.rules.specs.Refusals.Outcome.{refused};
 ghost use Rattle.rules.specs.Words.{records};
+ghost use Rattle.rules.specs.Check.{most-nesting};
 ghost use Rattle.rules.specs.Walks.{full};
 ghost use Rattle.check.specs.Expecting.{ways};
 ghost use Rattle.check.specs.Faults.{number, place};
@@ -32,7 +33,13 @@ pub(crate) struct Siblings {
 
 impl Siblings {
     /// Record `n` is the next of the chain: the record, and what is expected after it.
-    fn take(self, words: &[u32], n: u32, expected: Expected, seen: &[bool]) -> Result<(Record, Expected), CheckFault>
+    fn take(
+        self,
+        words: &[u32],
+        n: u32,
+        expected: Expected,
+        seen: &[bool],
+    ) -> Result<(Record, Expected), CheckFault>
         requires low { ⌜ 1 ≤ n ⌝ }
         requires room { ⌜ records (now words) ≤ length (now seen) ⌝ }
         ensures { λ r. ⌜ Cases r (λ p. Taken (now (words .entry)) n (self .nesting) (ways expected) (now (seen .entry)) (p .0) (ways (p .1))) (λ e. Untaken (now (words .entry)) n (self .nesting) (ways expected) (now (seen .entry)) e) ⌝ }
@@ -56,13 +63,23 @@ impl Siblings {
     fn stop(self, expected: Expected) -> Result<(), CheckFault>
         ensures { λ r. ⌜ Cases r (λ _. may-end (ways expected) ≡ true) (λ e. (may-end (ways expected) ≡ false) × (e ≡ CheckFault.Misfit (self .parent))) ⌝ }
     {
-        if expected.may_end() { Ok(()) } else { Err(CheckFault::Misfit(self.parent)) }
+        if expected.may_end() {
+            Ok(())
+        } else {
+            Err(CheckFault::Misfit(self.parent))
+        }
     }
 }
 
 /// Walks the chain from the link `first` on, with all that is under its records: how many records that is.
-pub(crate) fn chain(words: &[u32], first: u32, siblings: Siblings, mut expected: Expected, seen: &mut [bool]) -> Result<usize, CheckFault>
-    requires deep { ⌜ siblings .nesting ≤ 129 ⌝ }
+pub(crate) fn chain(
+    words: &[u32],
+    first: u32,
+    siblings: Siblings,
+    mut expected: Expected,
+    seen: &mut [bool],
+) -> Result<usize, CheckFault>
+    requires deep { ⌜ siblings .nesting ≤ suc most-nesting ⌝ }
     requires room { ⌜ records (now words) ≤ length (now seen) ⌝ }
     ensures left { λ r. ⌜ made r (λ k. k + unmarked (now (seen .exit)) ≡ unmarked (now (seen .entry))) ⌝ }
     ensures is { λ r. ⌜ ((before : List ℕ) → Marks (now (seen .entry)) before → Cases r (λ k. Walked (now (words .entry)) first (siblings .nesting) (ways expected) (siblings .parent) before (now (seen .exit)) k) (λ e. full (now (words .entry)) first (siblings .nesting) (ways expected) (siblings .parent) before ≡ refused (number e) (place e))) ⌝ }
@@ -72,7 +89,10 @@ pub(crate) fn chain(words: &[u32], first: u32, siblings: Siblings, mut expected:
     while at != 0 {
         let (node, next) = siblings.take(words, at, expected, seen)?;
         seen[at as usize - 1] = true;
-        let children = Siblings { parent: at, nesting: siblings.nesting + 1 };
+        let children = Siblings {
+            parent: at,
+            nesting: siblings.nesting + 1,
+        };
         count += 1 + chain(words, node.first, children, Expected::under(node), seen)?;
         at = node.next;
         expected = next;

@@ -19,7 +19,13 @@ pub struct Written {
 impl Written {
     /// The tree that the text says.
     pub fn from(text: &str) -> Written {
-        let mut tree = Written { words: [0; ROOM], record: 1, field: KIND, open: [1; 16], depth: 0 };
+        let mut tree = Written {
+            words: [0; ROOM],
+            record: 1,
+            field: KIND,
+            open: [1; 16],
+            depth: 0,
+        };
         for byte in text.bytes() {
             match byte {
                 b'(' => tree.descend(),
@@ -61,7 +67,11 @@ impl Written {
     /// One more digit of the word that is being written.
     fn digit(&mut self, byte: u8) {
         let word = self.words.get(self.slot(self.field)).copied().unwrap_or(0);
-        self.put(self.field, word.wrapping_mul(10).wrapping_add(u32::from(byte.wrapping_sub(b'0'))));
+        self.put(
+            self.field,
+            word.wrapping_mul(10)
+                .wrapping_add(u32::from(byte.wrapping_sub(b'0'))),
+        );
     }
 
     /// Writes a word of the record.
@@ -74,7 +84,10 @@ impl Written {
 
     /// Where a word of the record stands.
     fn slot(&self, field: usize) -> usize {
-        (self.record as usize).wrapping_mul(6).wrapping_sub(6).wrapping_add(field)
+        (self.record as usize)
+            .wrapping_mul(6)
+            .wrapping_sub(6)
+            .wrapping_add(field)
     }
 }
 

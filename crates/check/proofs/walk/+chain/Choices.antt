@@ -1,13 +1,14 @@
 use mathlib.Core.Path.{_≡_}
 use mathlib.Core.List.{List}
 use Prim.Native.Nat.{ℕ, _+_, _-_}
+use Rattle.rules.specs.Check.{most-nesting}
 use Rattle.check.specs.Expecting.{ways}
 use Rattle.check.specs.Walking.{Marks, unmarked}
 use Rattle.check.proofs.Going.{Going}
 use Rattle.check.proofs.walk.+chain.Given as given
 
 abbrev pub μ-chain : given.MeasureT-chain
-μ-chain l = 130 - l .siblings .nesting
+μ-chain l = 2 + most-nesting - l .siblings .nesting
 
 abbrev pub Inv-loop-at : given.InvT-loop-at
 Inv-loop-at l =
