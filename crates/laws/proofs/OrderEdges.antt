@@ -8,13 +8,13 @@ use native.Mathlib.Omega.{arith}
 use mathlib.Core.Path.{_≡_, refl, sym, ap, _∙_, subst, subst₂}
 use mathlib.Core.List.{List, [], _∷_}
 use mathlib.Core.Bool.{Bool, true, false, _||_, or-assoc}
-use Rattle.std.proofs.shelf.Tests.{and-parts}
+use Rattle.std.proofs.shelf.Tests.{and-parts, and-from}
 use Rattle.rules.specs.Tree.{Name, if_then_else_}
 use Rattle.rules.specs.Names.{same}
 use Rattle.rules.specs.Counting.{Event}
 use Rattle.rules.specs.Tables.{EdgeRow, Counts, some-row, edge-of, reads, writes}
 use Rattle.rules.specs.Rings.{total}
-use Rattle.rules.proofs.SameNames.{same-eq}
+use Rattle.rules.proofs.SameNames.{same-eq, same-refl}
 use Rattle.laws.proofs.OrderNames.{or-swap}
 use Rattle.laws.proofs.Shuffles.{Commutes}
 use Rattle.laws.proofs.OrderRows.{with-change, some-with-change, share, total-with-change}
@@ -23,6 +23,9 @@ use Rattle.laws.proofs.OrderTables.{new-edge, adds-edge, held-by, all-held, en
 -- an edge is the one between two names
 pub edge-eq : (a b : Name) (r : EdgeRow) → edge-of a b r ≡ true → (a ≡ r .from) × (b ≡ r .to)
 edge-eq a b r h = let p = and-parts (same a (r .from)) (same b (r .to)) h in (same-eq a (r .from) (p .0), same-eq b (r .to) (p .1))
+
+pub edge-refl : (a b : Name) → edge-of a b (new-edge a b) ≡ true
+edge-refl a b = and-from (same a a) (same b b) (same-refl a) (same-refl b)
 
 -- THE EDGES THERE ARE
 

@@ -1,9 +1,9 @@
 -- Booleans and names as the lemmas on order need them: tests that agree, choices that commute, and a case split on whether two names are one.
 --
 --   bool-eq, or-swap, or-idem, or-turn        tests
---   cond-ap, cond-nest, cond-commutes         choices
+--   cond-ap, if-both, cond-nest, cond-commutes      choices
 --   same-or, same-turned, by-same, by-both    at one name, or at two that differ
-use mathlib.Core.Path.{_≡_, refl, sym, ap, _∙_, subst}
+use mathlib.Core.Path.{_≡_, refl, sym, ap, ap₂, _∙_, subst}
 use mathlib.Core.Bool.{Bool, true, false, cond, _&&_, _||_, not}
 use mathlib.Core.Logic.{_⊎_, inl, inr}
 use Rattle.std.proofs.shelf.Tests.{true≢false, cases-bool}
@@ -38,6 +38,9 @@ or-turn false false false d = refl
 pub cond-ap : {A B : Type 0} (f : A → B) (b : Bool) (x y : A) → f (cond b x y) ≡ cond b (f x) (f y)
 cond-ap f true x y = refl
 cond-ap f false x y = refl
+
+pub if-both : {A : Type 0} (b : Bool) {b′ : Bool} {x x′ y y′ : A} → b′ ≡ b → x′ ≡ x → y′ ≡ y → cond b′ x′ y′ ≡ cond b x y
+if-both b {x′ = x′} {y′ = y′} p q r = ap (λ (z : Bool). cond z x′ y′) p ∙ ap₂ (cond b) q r
 
 pub cond-nest : {A : Type 0} (b : Bool) (f : A → A) (x y : A) → cond b (f x) y ≡ cond b (f (cond b x y)) (cond b x y)
 cond-nest true f x y = refl
