@@ -7,24 +7,22 @@
 --   read-after, read-full                 what is read back after a pass, and after one that was refused
 use Prim.Native.Nat.{ℕ}
 use native.Mathlib.Omega.{arith}
-use mathlib.Core.Path.{_≡_, refl, sym, ap, ap₂, _∙_}
+use mathlib.Core.Path.{_≡_, refl, ap, ap₂}
 use mathlib.Core.List.{List, [], _∷_}
 use mathlib.Core.Bool.{Bool, true, _&&_}
 use lib.Dec.{leb}
 use lib.ListN.{length}
 use Rattle.std.proofs.shelf.Tests.{and-from, and-left, and-right}
 use Rattle.rules.specs.Tree.{Chain, Name}
-use Rattle.rules.specs.Refusals.{Outcome, andThen}
-use Rattle.rules.specs.Refusals.Outcome.{fine, refused}
 use Rattle.rules.specs.Names.{among, declared}
 use Rattle.rules.specs.Counting.{events-of}
-use Rattle.rules.specs.Tables.{Room, no-rows, declare, fill, declared-width, declared-in-words, read-declared}
+use Rattle.rules.specs.Tables.{Room, no-rows, fill, declared-width, declared-in-words, read-declared}
 use Rattle.rules.specs.Calls.{Filled, declared-after, fill-declared, fill-tables}
 use Rattle.laws.proofs.OrderTidy.{tidy-filled, names-sizes, edges-sizes}
 use Rattle.laws.proofs.OrderRoom.{Bounded, then-bounded, all-declared, declare-bounded, fits, fill-bounded}
 use Rattle.laws.proofs.OrderCount.{Turned, counts, counts-turned, names-turned}
 use Rattle.laws.proofs.OrderHeads.{Nowhere}
-use Rattle.laws.proofs.OrderDeclared.{declared-names, declared-sizes, Symbols, unnamed, symbols-of-tree}
+use Rattle.laws.proofs.OrderDeclared.{declared-names, declared-sizes, unnamed, symbols-of-tree}
 use Rattle.laws.proofs.OrderWords.{table-sizes, declared-words-sizes, read-back}
 
 -- the rows of declared that a pass has

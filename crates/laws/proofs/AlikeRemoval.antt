@@ -4,8 +4,7 @@
 --   Left-alike, removed-alike      what is left of twins
 --   by-alike                       tables that tell the same
 use Prim.Native.Nat.{ℕ}
-use mathlib.Core.Path.{_≡_, refl, sym, ap, _∙_, subst, subst₂}
-use mathlib.Core.List.{List}
+use mathlib.Core.Path.{_≡_, sym, ap, _∙_, subst, subst₂}
 use mathlib.Core.Bool.{Bool, false, _||_}
 use Rattle.rules.specs.Tree.{Head, Chain, Name, below, unnumbered}
 use Rattle.rules.specs.Tree.Chain.{end, link}
@@ -18,8 +17,8 @@ use Rattle.laws.proofs.AlikeRings.{rows-alike}
 use Rattle.laws.proofs.UnnumberedRemoval.{treat-unnumbered}
 use Rattle.laws.proofs.OrderCount.{root-of, Turned}
 use Rattle.laws.proofs.OrderCount.Turned.{roots}
-use Rattle.laws.proofs.OrderRemoval.{top, not-in-for, remains, remains-shuffled, changed-shuffled, remains-unnumbered, root-left, root-treated}
-use Rattle.laws.proofs.OrderHeads.{Nowhere, nowhere-below, nowhere-treated, asm-string, asm-unmade, asm-free}
+use Rattle.laws.proofs.OrderRemoval.{top, not-in-for, remains, remains-shuffled, changed-shuffled, remains-unnumbered, root-treated}
+use Rattle.laws.proofs.OrderHeads.{nowhere-below, nowhere-treated, asm-string, asm-unmade, asm-free}
 use Rattle.laws.proofs.OrderSlots.{Items, remains-at, remains-items}
 use Rattle.laws.proofs.OrderDeclared.{unnamed, unnamed-unmade}
 use Rattle.laws.proofs.OrderStart.{Twins}

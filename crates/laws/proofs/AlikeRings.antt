@@ -4,20 +4,19 @@
 --   leads-alike, component-alike      edges lead alike; components have the same names
 --   closed-alike, discount-alike      closed rings; a discounted row
 --   rows-alike                        a name's row after the rings are discounted
-use Prim.Native.Nat.{ℕ}
 use mathlib.Core.Path.{_≡_, refl, sym, ap, ap₂, _∙_, subst, fun-ext}
 use mathlib.Core.List.{List, [], _∷_}
 use mathlib.Core.Bool.{Bool, true, false, cond, _&&_, _||_, not}
-use mathlib.Core.Logic.{_⊎_, inl, inr}
+use mathlib.Core.Logic.{inl, inr}
 use Rattle.std.proofs.shelf.Tests.{false≢true, and-from, or-cases, or-left, or-right, not-true, not-from-false}
 use Rattle.rules.specs.Tree.{Name, if_then_else_}
 use Rattle.rules.specs.Names.{same, among}
-use Rattle.rules.specs.Tables.{NameRow, EdgeRow, Counts, fresh, look, edge-of}
+use Rattle.rules.specs.Tables.{NameRow, EdgeRow, Counts, fresh, look}
 use Rattle.rules.specs.Rings.{Edge, Leads, component, has-other, closed, minus, less, discount-row, discount-rows, discount}
 use Rattle.rules.specs.Rings.Leads.{here, onward}
 use Rattle.rules.proofs.SameNames.{same-eq, same-refl}
 use Rattle.rules.proofs.Leading.{component-told}
-use Rattle.laws.proofs.OrderNames.{bool-eq, cond-ap}
+use Rattle.laws.proofs.OrderNames.{bool-eq}
 use Rattle.laws.proofs.OrderTables.{some-name, some-entry}
 use Rattle.laws.proofs.OrderEdges.{edge-eq, some-edge, weights}
 use Rattle.laws.proofs.AlikeTables.{Alike}

@@ -8,8 +8,8 @@
 --   pass-even                           a pass
 use Prim.Native.Nat.{ℕ, _/_}
 use mathlib.Core.Path.{_≡_, refl, sym, ap, ap₂, _∙_, subst, subst₂}
-use mathlib.Core.List.{List, [], _∷_}
-use mathlib.Core.Bool.{Bool, true, false, _&&_, _||_}
+use mathlib.Core.List.{List, []}
+use mathlib.Core.Bool.{Bool, _&&_, _||_}
 use lib.Dec.{leb}
 use lib.ListN.{length}
 use Rattle.std.proofs.shelf.Tests.{true≢false, false≢true}
@@ -20,7 +20,7 @@ use Rattle.rules.specs.Check.{tree-fits}
 use Rattle.rules.specs.Judges.{Lawful}
 use Rattle.rules.specs.Tables.{Room, room, names-width, edges-width, names-in-words, edges-in-words, read-declared}
 use Rattle.rules.specs.Rings.{discount}
-use Rattle.rules.specs.Removal.{Config, By, Left, at-root, treat}
+use Rattle.rules.specs.Removal.{Config, By, at-root, treat}
 use Rattle.rules.specs.Calls.{State, Filled, Pass, After, most-table-words, handed-fit, zeroed, cleared, filled-up, fill-tables, pass-by, remove, passed, pass-filled, pass-checked, pass-once}
 use Rattle.rules.specs.Law.{tree-of, Same-lost}
 use Rattle.laws.proofs.UnnumberedRemoval.{blind}

@@ -4,7 +4,6 @@
 --   Alike           tables that tell the same
 --   Exchanged       the same events, in whatever order
 --   alike           exchanged events fill tables alike
-use Prim.Native.Nat.{ℕ}
 use mathlib.Core.Path.{_≡_, refl, sym, ap, _∙_}
 use mathlib.Core.List.{List, [], _∷_}
 use mathlib.Core.Bool.{Bool}

@@ -14,15 +14,15 @@ use Rattle.rules.specs.Tree.{Head, Chain, Name, if_then_else_, reached, unnumbe
 use Rattle.rules.specs.Tree.Chain.{end, link}
 use Rattle.rules.specs.Kinds.{module-root, script-root}
 use Rattle.rules.specs.Names.{same, among, namesOf, keep, under-nothing, declares, under, declaring, declared}
-use Rattle.rules.specs.Counting.{Event, Found, outermost, count, events-of}
+use Rattle.rules.specs.Counting.{Event, Found, outermost, events-of}
 use Rattle.rules.specs.Tables.{Counts, no-rows}
 use Rattle.rules.specs.Law.{Shuffled}
 use Rattle.rules.specs.Law.Shuffled.{none, past, swap, again}
 use Rattle.laws.proofs.OrderNames.{or-swap}
-use Rattle.laws.proofs.Shuffles.{fold, Commutes, fold-++, fold-swap}
+use Rattle.laws.proofs.Shuffles.{fold, fold-++, fold-swap}
 use Rattle.laws.proofs.OrderTables.{filled}
 use Rattle.laws.proofs.AlikeTables.{Alike, Exchanged, alike}
-use Rattle.laws.proofs.UnnumberedCount.{unnumbered-events, filled-unnumbered, names-unnumbered, declaring-unnumbered, count-unnumbered}
+use Rattle.laws.proofs.UnnumberedCount.{filled-unnumbered, names-unnumbered, declaring-unnumbered, count-unnumbered}
 
 -- a root's record: a Module's or a Script's
 abbrev pub root-of : (module-tree : Bool) → Head → Head

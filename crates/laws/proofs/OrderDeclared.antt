@@ -12,7 +12,7 @@ use mathlib.Core.Logic.{inl, inr}
 use lib.Dec.{eqb}
 use lib.ListN.{length}
 use Prim.Native.Nat.{ℕ}
-use Rattle.std.proofs.shelf.Tests.{true≢false, cases-bool, or-cases, or-left, or-right, and-parts, not-true, eqb-true}
+use Rattle.std.proofs.shelf.Tests.{true≢false, cases-bool, or-cases, and-parts, not-true, eqb-true}
 use Rattle.rules.specs.Tree.{Head, Chain, Name, if_then_else_, _is_, nameOf}
 use Rattle.rules.specs.Tree.Chain.{end, link}
 use Rattle.rules.specs.Kinds.{member, definition-expression, specifier, fn-declaration, class-declaration, name-pattern, property-name}

@@ -5,7 +5,7 @@
 --   weighed, weights-entered, weighed-commutes     the weights of the edges that pass
 use Prim.Native.Nat.{ℕ, _+_}
 use native.Mathlib.Omega.{arith}
-use mathlib.Core.Path.{_≡_, refl, sym, ap, _∙_, subst, subst₂}
+use mathlib.Core.Path.{_≡_, refl, sym, ap, _∙_, subst₂}
 use mathlib.Core.List.{List, [], _∷_}
 use mathlib.Core.Bool.{Bool, true, false, _||_, or-assoc}
 use Rattle.std.proofs.shelf.Tests.{and-parts, and-from}
@@ -17,7 +17,7 @@ use Rattle.rules.specs.Rings.{total}
 use Rattle.rules.proofs.SameNames.{same-eq, same-refl}
 use Rattle.laws.proofs.OrderNames.{or-swap}
 use Rattle.laws.proofs.Shuffles.{Commutes}
-use Rattle.laws.proofs.OrderRows.{with-change, some-with-change, share, total-with-change}
+use Rattle.laws.proofs.OrderRows.{with-change, some-with-change, total-with-change}
 use Rattle.laws.proofs.OrderTables.{new-edge, adds-edge, held-by, all-held, entered}
 
 -- an edge is the one between two names

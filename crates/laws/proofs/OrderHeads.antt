@@ -4,7 +4,6 @@
 --   Nowhere                        a test passes no record of a chain
 --   nowhere-treated                nor of what is left of it
 --   asm-nowhere, asm-free          no string 'use asm', so no list that begins with it
-use Prim.Native.Nat.{ℕ}
 use mathlib.Core.Path.{_≡_, refl}
 use mathlib.Core.Bool.{Bool, true, false, _&&_, _||_}
 use lib.Dec.{eqb}

@@ -4,7 +4,7 @@
 --   cond-ap, if-both, cond-nest, cond-commutes      choices
 --   same-or, same-turned, by-same, by-both    at one name, or at two that differ
 use mathlib.Core.Path.{_≡_, refl, sym, ap, ap₂, _∙_, subst}
-use mathlib.Core.Bool.{Bool, true, false, cond, _&&_, _||_, not}
+use mathlib.Core.Bool.{Bool, true, false, cond, _&&_, _||_}
 use mathlib.Core.Logic.{_⊎_, inl, inr}
 use Rattle.std.proofs.shelf.Tests.{true≢false, cases-bool}
 use Rattle.rules.specs.Tree.{Name}

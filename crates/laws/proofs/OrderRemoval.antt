@@ -6,7 +6,7 @@
 --   remains-shuffled, changed-shuffled      in another order
 --   remains-unnumbered                record numbers apart
 --   root-treated                      what is left of a root that does not begin with 'use asm'
-use mathlib.Core.Path.{_≡_, refl, sym, ap, ap₂, _∙_, subst₂}
+use mathlib.Core.Path.{_≡_, refl, sym, ap, _∙_, subst₂}
 use mathlib.Core.Bool.{Bool, true, false, _&&_, _||_, not}
 use lib.Dec.{eqb}
 use Rattle.rules.specs.Tree.{Head, Chain, if_then_else_, _is_, isEnd, append, unnumbered}

@@ -7,20 +7,20 @@
 --   fill-bounded                   names and edges
 use Prim.Native.Nat.{ℕ, suc, _+_, _≤_}
 use native.Mathlib.Omega.{arith}
-use mathlib.Core.Path.{_≡_, refl, sym, ap, ap₂, _∙_, subst}
-use mathlib.Core.List.{List, [], _∷_, _++_}
+use mathlib.Core.Path.{_≡_, refl, sym, ap, _∙_, subst}
+use mathlib.Core.List.{List, [], _∷_}
 use mathlib.Core.Bool.{Bool, true, false, _&&_}
 use mathlib.Core.Logic.{inl, inr}
 use lib.Dec.{leb, ltb}
 use lib.ListN.{length}
-use Rattle.std.proofs.shelf.Tests.{cases-bool, and-parts, and-from, and-cases, and-left, and-right, le-leb, lt-leb, leb-true, leb-false, ltb-true, ltb-false}
+use Rattle.std.proofs.shelf.Tests.{cases-bool, and-parts, and-from, and-cases, and-left, and-right, le-leb, lt-leb, leb-false, ltb-true, ltb-false}
 use Rattle.std.proofs.shelf.Lists.{length-push}
 use Rattle.rules.specs.Tree.{Head, Name, if_then_else_, nameOf}
 use Rattle.rules.specs.Refusals.{Outcome, andThen, declared-full, names-full, edges-full}
 use Rattle.rules.specs.Refusals.Outcome.{fine, refused}
 use Rattle.rules.specs.Names.{same}
 use Rattle.rules.specs.Counting.{Event}
-use Rattle.rules.specs.Tables.{NameRow, EdgeRow, Counts, Room, no-rows, some-row, need, fresh, row-of, edge-of, need-name, need-edge, grow-edge, grow-name, hold, enter, fill, declare}
+use Rattle.rules.specs.Tables.{Counts, Room, no-rows, some-row, need, fresh, row-of, edge-of, need-name, need-edge, grow-edge, grow-name, hold, enter, fill, declare}
 use Rattle.rules.proofs.SameNames.{same-refl}
 use Rattle.laws.proofs.OrderRows.{with-row, with-change, change-with, with-row-there, with-row-new}
 use Rattle.laws.proofs.OrderTables.{new-edge, adds-edge, adds, held-by, all-held, entered, filled}

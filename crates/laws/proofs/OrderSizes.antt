@@ -4,7 +4,7 @@
 --   has-key, Single                      a row has this key; no two rows have one key
 --   single-with-row, single-with-change  the filling without bound keeps it so
 --   equal-sizes                          the same keys, equally many rows
-use Prim.Native.Nat.{ℕ, suc}
+use Prim.Native.Nat.{suc}
 use mathlib.Core.Path.{_≡_, refl, sym, ap, _∙_, subst}
 use mathlib.Core.List.{List, [], _∷_}
 use mathlib.Core.Bool.{Bool, true, false, cond, _&&_, _||_, not}

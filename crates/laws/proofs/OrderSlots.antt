@@ -7,10 +7,10 @@
 --   remains-items            the items that are left are such items again
 use Prim.Native.Nat.{ℕ}
 use mathlib.Core.Path.{_≡_, refl, sym, ap, _∙_, subst}
-use mathlib.Core.Bool.{Bool, true, false, _&&_, _||_, not}
+use mathlib.Core.Bool.{Bool, true, false, _&&_, _||_}
 use lib.Dec.{eqb}
 use Rattle.std.proofs.shelf.Tests.{eqb-true, eq-eqb, ne-eqb, true≢false, and-left}
-use Rattle.rules.specs.Tree.{Head, Chain, if_then_else_, _is_, isEnd, append, unnumbered-head, unnumbered}
+use Rattle.rules.specs.Tree.{Head, Chain, if_then_else_, _is_, isEnd, append, unnumbered}
 use Rattle.rules.specs.Tree.Chain.{end, link}
 use Rattle.rules.specs.Kinds.{expression, empty-statement, block, for-statement, assignment, call-expression}
 use Rattle.rules.specs.Removal.{By, Place, Left, Verdict, place-inside, entered, swept, fn-goes, class-goes, declarator-goes, specifier-goes, import-emptied, var-emptied, var-restates, assignment-yields, call-unwraps, has-list, verdict, done, treated, treat}

@@ -7,17 +7,17 @@
 --   reordered-twins          the two trees of the law
 use Prim.Native.Nat.{ℕ}
 use native.Mathlib.Omega.{arith}
-use mathlib.Core.Path.{_≡_, refl, sym, ap, _∙_, subst, subst₂}
-use mathlib.Core.List.{List, [], _∷_, _++_}
-use mathlib.Core.Bool.{Bool, true, false, _&&_, _||_, not}
+use mathlib.Core.Path.{_≡_, refl, sym, _∙_, subst, subst₂}
+use mathlib.Core.List.{List, [], _∷_}
+use mathlib.Core.Bool.{Bool, true, false, _&&_}
 use mathlib.Core.Logic.{inl, inr}
 use lib.Dec.{eqb, leb}
 use Rattle.std.proofs.shelf.Tests.{true≢false, false≢true, cases-bool, or-cases, and-parts, and-left, and-right, not-true, eqb-true, leb-true, lt-leb}
-use Rattle.rules.specs.Tree.{Head, Chain, if_then_else_, _is_, below, unnumbered}
+use Rattle.rules.specs.Tree.{Head, Chain, if_then_else_, below, unnumbered}
 use Rattle.rules.specs.Tree.Chain.{end, link}
 use Rattle.rules.specs.Kinds.{member, known, module-root, script-root, import-item, export-declaration, export-list, export-default, expression, statement, item}
-use Rattle.rules.specs.Grammar.{Way, Part, named, flags-fit, name-fits, words-fit, children-of, step, misplaced, root}
-use Rattle.rules.specs.Grammar.Part.{one, maybe, many}
+use Rattle.rules.specs.Grammar.{Way, named, flags-fit, name-fits, words-fit, children-of, step, misplaced, root}
+use Rattle.rules.specs.Grammar.Part.{one, many}
 use Rattle.rules.specs.Held.{Numbers, Apart, Formed}
 use Rattle.rules.specs.Law.{Shuffled, root-kind, item-at, Reordered}
 use Rattle.rules.proofs.Sounds.{check-sound}

@@ -6,7 +6,7 @@
 --   named, some-name-entered, named-commutes      some name passes
 --   entries, some-entry-entered, entries-commute  some entry passes
 -- The edges have a page of their own.
-use Prim.Native.Nat.{ℕ, _+_}
+use Prim.Native.Nat.{_+_}
 use native.Mathlib.Omega.{arith}
 use mathlib.Core.Path.{_≡_, refl, sym, ap, _∙_, subst}
 use mathlib.Core.List.{List, [], _∷_}

@@ -10,11 +10,11 @@ use mathlib.Core.Path.{_≡_, refl, sym, ap, ap₂, _∙_}
 use mathlib.Core.List.{List, [], _∷_, _++_}
 use mathlib.Core.Bool.{Bool, true, false, _&&_, _||_}
 use lib.Dec.{eqb}
-use Rattle.rules.specs.Tree.{Head, Chain, Name, if_then_else_, _is_, flagged, nameOf, unnumbered-head, unnumbered}
+use Rattle.rules.specs.Tree.{Head, Chain, Name, if_then_else_, _is_, nameOf, unnumbered-head, unnumbered}
 use Rattle.rules.specs.Tree.Chain.{end, link}
 use Rattle.rules.specs.Kinds.{export-declaration, export-name, fn-declaration, class-declaration, var-declaration, declarator, function, identifier, arrow, call-expression, name-pattern, property-name, arguments-symbol}
 use Rattle.rules.specs.Names.{among, namesOf, distinct, binds, nests, keep, bound, Under, under, under-nothing, declares, declaring, declared-below, exported}
-use Rattle.rules.specs.Counting.{Event, Found, Around, Role, nothing, _followed-by_, holders, refer, marked, marks, reference, reading, readings, named-here, calls-eval, own, opens, leave, inside, count}
+use Rattle.rules.specs.Counting.{Event, Found, Around, Role, _followed-by_, holders, refer, marked, marks, reference, reading, readings, named-here, calls-eval, own, opens, leave, inside, count}
 use Rattle.rules.specs.Counting.Role.{declared-here, written, read-and-written}
 use Rattle.rules.specs.Tables.{Counts}
 use Rattle.laws.proofs.OrderNames.{cond-ap}
