@@ -1,1 +1,2 @@
 pub mod KeepsTree
+pub mod OrderLaw
