@@ -32,3 +32,4 @@ pub mod AlikeRemoval
 pub mod AlikeFilling
 pub mod AlikeStates
 pub mod AlikeRuns
+pub mod OrderSample

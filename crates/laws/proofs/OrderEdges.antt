@@ -15,7 +15,7 @@ use Rattle.rules.specs.Counting.{Event}
 use Rattle.rules.specs.Tables.{EdgeRow, Counts, some-row, edge-of, reads, writes}
 use Rattle.rules.specs.Rings.{total}
 use Rattle.rules.proofs.SameNames.{same-eq, same-refl}
-use Rattle.laws.proofs.OrderNames.{or-swap}
+use Rattle.laws.proofs.OrderNames.{or-swap, or-twice}
 use Rattle.laws.proofs.Shuffles.{Commutes}
 use Rattle.laws.proofs.OrderRows.{with-change, some-with-change, total-with-change}
 use Rattle.laws.proofs.OrderTables.{new-edge, adds-edge, held-by, all-held, entered}
@@ -34,11 +34,7 @@ some-edge p rs = some-row (λ r. p (r .from) (r .to)) rs
 
 pub some-edge-changed : (p : Name → Name → Bool) (a b : Name) (e : Event) (rs : List EdgeRow) → some-edge p (with-change (edge-of a b) (new-edge a b) (adds-edge e) rs) ≡ (p a b || some-edge p rs)
 some-edge-changed p a b e rs = some-with-change (λ r. p (r .from) (r .to)) (edge-of a b) (new-edge a b) (adds-edge e) (p a b) refl
-  (λ r q. let (x, y) = edge-eq a b r q in subst₂ (λ (u v : Name). p u v ≡ (p a b || p u v)) x y (twice (p a b))) rs
-  where
-    twice : (b : Bool) → b ≡ (b || b)
-    twice true = refl
-    twice false = refl
+  (λ r q. let (x, y) = edge-eq a b r q in subst₂ (λ (u v : Name). p u v ≡ (p a b || p u v)) x y (or-twice (p a b))) rs
 
 -- a test of the edges that an event brings
 abbrev pub held-edge : (Name → Name → Bool) → List Name → Name → Bool

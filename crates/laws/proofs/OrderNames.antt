@@ -1,12 +1,12 @@
 -- Booleans and names as the lemmas on order need them: tests that agree, choices that commute, and a case split on whether two names are one.
 --
---   bool-eq, or-swap, or-idem, or-turn        tests
+--   bool-eq, or-swap, or-twice, or-turn             tests
 --   cond-ap, if-both, cond-nest, cond-commutes      choices
---   same-or, same-turned, by-same, by-both    at one name, or at two that differ
+--   by-same                                         at one name, or at two that differ
 use mathlib.Core.Path.{_≡_, refl, sym, ap, ap₂, _∙_, subst}
-use mathlib.Core.Bool.{Bool, true, false, cond, _&&_, _||_}
+use mathlib.Core.Bool.{Bool, true, false, cond, _||_}
 use mathlib.Core.Logic.{_⊎_, inl, inr}
-use Rattle.std.proofs.shelf.Tests.{true≢false, cases-bool}
+use Rattle.std.proofs.shelf.Tests.{cases-bool}
 use Rattle.rules.specs.Tree.{Name}
 use Rattle.rules.specs.Names.{same}
 use Rattle.rules.proofs.SameNames.{same-eq, same-refl}
@@ -23,9 +23,9 @@ or-swap true false c = refl
 or-swap false true c = refl
 or-swap false false c = refl
 
-pub or-idem : (a b : Bool) → (a || (a || b)) ≡ (a || b)
-or-idem true b = refl
-or-idem false b = refl
+pub or-twice : (b : Bool) → b ≡ (b || b)
+or-twice true = refl
+or-twice false = refl
 
 pub or-turn : (a b c d : Bool) → (a || (b || (c || d))) ≡ (((b || c) || a) || d)
 or-turn true true c d = refl
@@ -52,16 +52,9 @@ cond-commutes true false f g r e = refl
 cond-commutes false true f g r e = refl
 cond-commutes false false f g r e = refl
 
-pub same-or : (a b : Name) → (a ≡ b) ⊎ (same a b ≡ false)
+same-or : (a b : Name) → (a ≡ b) ⊎ (same a b ≡ false)
 same-or a b = elim (cases-bool (same a b)) [ inl e ↦ inl (same-eq a b e) | inr e ↦ inr e ]
-
-pub same-turned : (a b : Name) → same a b ≡ false → same b a ≡ false
-same-turned a b q = elim (cases-bool (same b a)) [ inl t ↦ absurd (true≢false (sym (same-refl a) ∙ (ap (same a) (sym (same-eq b a t)) ∙ q))) | inr f ↦ f ]
 
 -- at one name, or at two that differ
 pub by-same : (a b : Name) (P : Name → Bool → Type 0) → P a true → (same a b ≡ false → P b false) → P b (same a b)
 by-same a b P s d = elim (same-or a b) [ inl e ↦ subst (λ (x : Name). P x (same a x)) e (subst (P a) (sym (same-refl a)) s) | inr e ↦ subst (P b) (sym e) (d e) ]
-
--- at one pair of names, or at two that differ
-pub by-both : (a x b y : Name) (P : Name → Name → Bool → Type 0) → P a b true → P x y false → P x y (same a x && same b y)
-by-both a x b y P s d = by-same a x (λ z t. P z y false → P z y (t && same b y)) (λ f. by-same b y (P a) s (λ _. f)) (λ _ f. f) d

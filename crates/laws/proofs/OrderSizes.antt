@@ -13,6 +13,7 @@ use lib.ListN.{length}
 use Rattle.std.proofs.shelf.Tests.{true≢false, false≢true, cases-bool, or-left, or-from, and-right}
 use Rattle.rules.specs.Tree.{if_then_else_}
 use Rattle.rules.specs.Tables.{some-row}
+use Rattle.laws.proofs.OrderNames.{or-twice}
 use Rattle.laws.proofs.OrderRows.{with-row, with-change, some-with-row, some-with-change}
 
 module _ {Row K : Type 0} (key : Row → K) (eq : K → K → Bool) where
@@ -52,13 +53,9 @@ module _ {Row K : Type 0} (key : Row → K) (eq : K → K → Bool) (sound : (a 
       inl e ↦ rw e (ap (λ (x : K). has-key key eq x rs) (keeps r) ∙ p .0, p .1)
     | inr e ↦ rw e
         (some-with-change (λ s. eq (key r) (key s)) (λ s. eq (key new) (key s)) new to (eq (key r) (key new)) (ap (eq (key r)) (keeps new))
-          (λ s q. ap (eq (key r)) (keeps s) ∙ subst (λ (x : K). eq (key r) x ≡ (eq (key r) (key new) || eq (key r) x)) (sound (key new) (key s) q) (twice (eq (key r) (key new)))) rs
+          (λ s q. ap (eq (key r)) (keeps s) ∙ subst (λ (x : K). eq (key r) x ≡ (eq (key r) (key new) || eq (key r) x)) (sound (key new) (key s) q) (or-twice (eq (key r) (key new)))) rs
           ∙ or-from (eq (key r) (key new)) (has-key key eq (key r) rs) (turned (key new) (key r) e) (p .0),
          single-with-change new to keeps rs (p .1)) ]
-    where
-      twice : (b : Bool) → b ≡ (b || b)
-      twice true = refl
-      twice false = refl
 
   has-without : (k x : K) (rs : List Row) → Single key eq rs → has-key key eq k (without key eq x rs) ≡ (not (eq k x) && has-key key eq k rs)
   has-without k x [] p = sym (and-right (not (eq k x)) false refl)

@@ -17,7 +17,7 @@ use Rattle.rules.specs.Names.{same}
 use Rattle.rules.specs.Counting.{Event}
 use Rattle.rules.specs.Tables.{NameRow, EdgeRow, Counts, some-row, fresh, look, row-of, edge-of, reads, writes}
 use Rattle.rules.proofs.SameNames.{same-eq}
-use Rattle.laws.proofs.OrderNames.{or-swap, or-turn, cond-ap, cond-nest, cond-commutes, by-same}
+use Rattle.laws.proofs.OrderNames.{or-swap, or-twice, or-turn, cond-ap, cond-nest, cond-commutes, by-same}
 use Rattle.laws.proofs.Shuffles.{Commutes}
 use Rattle.laws.proofs.OrderRows.{with-row, with-change, some-with-row, some-with-change}
 
@@ -111,11 +111,7 @@ some-name-with p n rs = some-with-row (λ r. p (r .name)) (row-of n) (fresh n) (
 
 pub some-name-changed : (p : Name → Bool) (n : Name) (e : Event) (rs : List NameRow) → some-name p (with-change (row-of n) (fresh n) (adds e) rs) ≡ (p n || some-name p rs)
 some-name-changed p n e rs = some-with-change (λ r. p (r .name)) (row-of n) (fresh n) (adds e) (p n) refl
-  (λ r q. subst (λ (x : Name). p x ≡ (p n || p x)) (same-eq n (r .name) q) (twice (p n))) rs
-  where
-    twice : (b : Bool) → b ≡ (b || b)
-    twice true = refl
-    twice false = refl
+  (λ r q. subst (λ (x : Name). p x ≡ (p n || p x)) (same-eq n (r .name) q) (or-twice (p n))) rs
 
 -- a test of the names that an event's holders bring
 abbrev pub held-name : (Name → Bool) → List Name → Name → Bool
