@@ -1,0 +1,4 @@
+pub mod Verdicts
+pub mod SoundTrees
+pub mod SoundKept
+pub mod Shrinks

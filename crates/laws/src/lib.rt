@@ -1,0 +1,5 @@
+// nothing
+pub fn repeats_are_short_and_thorough() -> u8
+{
+    0
+}
