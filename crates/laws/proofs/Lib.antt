@@ -2,3 +2,4 @@ pub mod Verdicts
 pub mod SoundTrees
 pub mod SoundKept
 pub mod Shrinks
+pub mod SoundChecked
