@@ -20,11 +20,11 @@ treat-end : (by : By) (p : Place) (c : Chain) → isEnd c ≡ true → isEnd (tr
 treat-end by p end g = refl
 treat-end by p (link h children rest) g = absurd (both-ways false refl g)
 
-sound-after : (above : ℕ) (c : Chain) → Sound above c → Sound above (after c)
+pub sound-after : (above : ℕ) (c : Chain) → Sound above c → Sound above (after c)
 sound-after above end s = tt
 sound-after above (link h children rest) s = s .2
 
-sound-below : (above : ℕ) (c : Chain) → Sound above c → Sound (first-kind c) (below c)
+pub sound-below : (above : ℕ) (c : Chain) → Sound above c → Sound (first-kind c) (below c)
 sound-below above end s = tt
 sound-below above (link h children rest) s = s .1
 
@@ -56,6 +56,14 @@ kinds-kept by p above h cs k s full =
           (⊎-elim (λ y. inl (treat-end by p (after cs) y)) (λ y. inr (value y)) (a .value)) };
     name = λ x. treat-end by p cs (k .name x);
     empty = λ x. treat-end by p cs (k .empty x) }
+
+-- what is left of an Assignment's value is an expression
+kept-value : (by : By) (p : Place) (above : ℕ) (h : Head) (cs : Chain) → Kinds above h cs → Sound (h .kind) cs
+  → h .kind ≡ assignment → expression (first-kind (after (treat by p cs .chain))) ≡ true
+kept-value by p above h cs k s e =
+  let a = k .assigns e in
+  subst (λ (d : Chain). expression (first-kind d) ≡ true) (sym (treat-heads by p cs (a .0) .rest))
+    (treat-expression by p (h .kind) (after cs) (sound-after (h .kind) cs s) (a .1))
 
 -- the kind of a list asks nothing of its children
 kinds-list : (above : ℕ) (h : Head) (cs ds : Chain) → has-list h ≡ true → Kinds above h cs → Kinds above h ds
@@ -146,10 +154,7 @@ done-sound by p above h cs k s t restates m =
   (kinds-statement above h (joined bs) (away-from above h cs k (rw (m .kind))), sound-joined bs (subst (λ (j : ℕ). Sound j bs) (m .kind) t), tt)
 done-sound by p above h cs k s t (yields n) m =
   let bs = treat by (place-inside p h) cs .chain in
-  let a = k .assigns (m .kind) in
-  let value = treat-expression by (place-inside p h) (h .kind) (after cs) (sound-after (h .kind) cs s) (a .1) in
-  sound-alone (h .kind) above (after bs) (inr (subst (λ (d : Chain). expression (first-kind d) ≡ true) (sym (treat-heads by (place-inside p h) cs (a .0) .rest)) value))
-    (away-from above h cs k (rw (m .kind))) (sound-after (h .kind) bs t)
+  sound-alone (h .kind) above (after bs) (inr (kept-value by (place-inside p h) above h cs k s (m .kind))) (away-from above h cs k (rw (m .kind))) (sound-after (h .kind) bs t)
 done-sound by p above h cs k s t unwraps m =
   let bs = treat by (place-inside p h) cs .chain in
   let fn = below bs in
@@ -167,3 +172,11 @@ treat-sound by p above (link h cs rest) s =
       (λ _. done-sound by p above h cs (s .0) (s .1) (treat-sound by (place-inside p h) (h .kind) cs (s .1)) (verdict by p h cs (inner .chain)) (means by p h cs (inner .chain)))
       (λ _. (s .0, s .1, tt)))
     (treat-sound by p above rest (s .2))
+
+-- the treated children of a record: sound, an Assignment's value an expression
+pub record Kept (h : Head) (children : Chain) : Type 0 where
+  pub sound : Sound (h .kind) children
+  pub value : h .kind ≡ assignment → expression (first-kind (after children)) ≡ true
+
+pub treat-kept : (by : By) (p : Place) (above : ℕ) (h : Head) (cs : Chain) → Kinds above h cs → Sound (h .kind) cs → Kept h (treat by p cs .chain)
+treat-kept by p above h cs k s = record { sound = treat-sound by p (h .kind) cs s; value = kept-value by p above h cs k s }
