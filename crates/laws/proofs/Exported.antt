@@ -86,7 +86,7 @@ module _ (g : Head) where
   exports-append (link h cs rest) d x = ⊎-elim (λ y. inl (inl y))
     (λ y. ⊎-elim (λ z. inl (inr (inl z))) (λ z. ⊎-elim (λ w. inl (inr (inr w))) (λ w. inr w) (exports-append rest d z)) y) x
 
-  exports-swept : (c : Chain) → Exports g (swept c) → Exports g c
+  pub exports-swept : (c : Chain) → Exports g (swept c) → Exports g c
   exports-swept end = λ x. x
   exports-swept (link h cs rest) = cond-both _ (swept rest) (link h cs (swept rest)) (λ (c : Chain). Exports g c → Exports g (link h cs rest))
     (λ _ x. inr (inr (exports-swept rest x)))

@@ -5,3 +5,6 @@ pub mod Shrinks
 pub mod SoundChecked
 pub mod Listed
 pub mod Exported
+pub mod Refers
+pub mod Unwraps
+pub mod RefersKept
