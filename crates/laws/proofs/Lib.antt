@@ -8,3 +8,6 @@ pub mod Exported
 pub mod Refers
 pub mod Unwraps
 pub mod RefersKept
+pub mod Tallied
+pub mod Insides
+pub mod Looks
