@@ -11,3 +11,5 @@ pub mod RefersKept
 pub mod Tallied
 pub mod Insides
 pub mod Looks
+pub mod Fills
+pub mod Graphs
