@@ -13,3 +13,5 @@ pub mod Insides
 pub mod Looks
 pub mod Fills
 pub mod Graphs
+pub mod ClosedRings
+pub mod Freed
