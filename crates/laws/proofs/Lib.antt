@@ -15,3 +15,4 @@ pub mod Fills
 pub mod Graphs
 pub mod ClosedRings
 pub mod Freed
+pub mod Numbered
