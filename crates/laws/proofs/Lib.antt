@@ -16,3 +16,5 @@ pub mod Graphs
 pub mod ClosedRings
 pub mod Freed
 pub mod Numbered
+pub mod Runs
+pub mod References

@@ -1,1 +1,2 @@
+pub mod ReferencesLaw
 pub mod RepeatsLaw
