@@ -18,3 +18,4 @@ pub mod Freed
 pub mod Numbered
 pub mod Runs
 pub mod References
+pub mod Unchanged
