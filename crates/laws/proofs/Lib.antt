@@ -19,3 +19,4 @@ pub mod Numbered
 pub mod Runs
 pub mod References
 pub mod Unchanged
+pub mod Removables
