@@ -20,3 +20,4 @@ pub mod Runs
 pub mod References
 pub mod Unchanged
 pub mod Removables
+pub mod Repeats
