@@ -1,17 +1,15 @@
 -- Closed rings: each edge to a name of a closed ring comes from its ring, and the name is no entry; a name's discounted row is its
 -- row where the name stands in no closed ring, and counted where its row is.
-use Prim.Native.Nat.{ℕ}
 use mathlib.Core.Path.{_≡_, refl, sym, ap, subst, _∙_}
-use mathlib.Core.Bool.{Bool, true, false, cond, not, _&&_, _||_}
+use mathlib.Core.Bool.{Bool, true, false, not, _&&_}
 use mathlib.Core.List.{List, [], _∷_}
 use mathlib.Core.Logic.{_⊎_, inl, inr, ⊎-elim}
-use Rattle.std.proofs.shelf.Tests.{cond-both, and-parts, and-from, and-cases, both-ways, or-cases, or-parts, or-left, or-right, cases-bool, not-true, not-false}
+use Rattle.std.proofs.shelf.Tests.{cond-both, and-parts, and-from, and-cases, both-ways, or-parts, or-left, or-right, cases-bool, not-true, not-false}
 use Rattle.rules.specs.Tree.{Name, if_then_else_}
 use Rattle.rules.specs.Names.{same, among}
 use Rattle.rules.specs.Tables.{NameRow, EdgeRow, Counts, some-row, look, fresh}
-use Rattle.rules.specs.Rings.{Edge, Leads, component, has-other, has-entry, led-into, closed, less, discount-row, discount-rows, discount}
-use Rattle.rules.specs.Rings.Leads.{here, onward}
-use Rattle.rules.proofs.SameNames.{same-eq}
+use Rattle.rules.specs.Rings.{Edge, component, has-other, has-entry, led-into, closed, less, discount-row, discount-rows, discount}
+use Rattle.rules.specs.Rings.Leads.{here}
 use Rattle.rules.proofs.Leading.{component-told}
 use Rattle.laws.proofs.Looks.{look-name}
 

@@ -5,15 +5,15 @@
 --   hold-keeps, enter-keeps, fill-keeps    it is kept by holders, by an event, by all events
 use Prim.Native.Nat.{ℕ}
 use native.Mathlib.Omega.{arith}
-use mathlib.Core.Path.{_≡_, refl, sym, ap, subst, _∙_}
-use mathlib.Core.Bool.{Bool, true, false, _&&_, _||_}
+use mathlib.Core.Path.{_≡_, refl, ap, subst, _∙_}
+use mathlib.Core.Bool.{Bool, true, false}
 use mathlib.Core.List.{List, [], _∷_, _++_}
 use mathlib.Core.Logic.{_⊎_, inl, inr, ⊎-elim}
 use lib.Dec.{ltb}
 use lib.ListN.{length}
 use Rattle.std.proofs.shelf.Tests.{and-parts, both-ways, or-cases}
 use Rattle.rules.specs.Tree.{Name, if_then_else_}
-use Rattle.rules.specs.Refusals.{Outcome, andThen, names-full, edges-full}
+use Rattle.rules.specs.Refusals.{Outcome, names-full, edges-full}
 use Rattle.rules.specs.Refusals.Outcome.{fine, refused}
 use Rattle.rules.specs.Names.{same}
 use Rattle.rules.specs.Counting.{Event}

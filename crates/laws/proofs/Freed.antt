@@ -4,28 +4,27 @@
 --
 --   Within, unused-within, unread-within      the references to a free name
 --   taken-unused, gave-unread                 the names taken and given
-use Prim.Native.Nat.{ℕ, _+_, _≤_}
+use Prim.Native.Nat.{_≤_}
 use native.Mathlib.Omega.{arith}
-use mathlib.Core.Path.{_≡_, refl, sym, ap, subst, _∙_}
-use mathlib.Core.Bool.{Bool, true, false, cond, not, _&&_, _||_}
+use mathlib.Core.Path.{_≡_, refl, sym, subst, _∙_}
+use mathlib.Core.Bool.{Bool, true, false, not, _&&_, _||_}
 use mathlib.Core.List.{List, [], _∷_, _++_}
-use mathlib.Core.Logic.{_⊎_, inl, inr, ⊎-elim}
+use mathlib.Core.Logic.{⊎-elim}
 use lib.Dec.{eqb}
-use Rattle.std.proofs.shelf.Tests.{cond-both, and-parts, both-ways, or-cases, or-left, or-right, eqb-true, cases-bool, not-true}
+use Rattle.std.proofs.shelf.Tests.{and-parts, both-ways, or-cases, or-left, or-right, eqb-true, cases-bool, not-true}
 use Rattle.rules.specs.Tree.{Head, Chain, Name, if_then_else_, flagged, isEnd, first-is, first-name}
 use Rattle.rules.specs.Tree.Chain.{end, link}
 use Rattle.rules.specs.Kinds.{name-pattern}
 use Rattle.rules.specs.Names.{among}
 use Rattle.rules.specs.Refusals.Outcome.{fine}
-use Rattle.rules.specs.Counting.{Event, unheld, events-of}
-use Rattle.rules.specs.Tables.{NameRow, Counts, Room, fill, no-rows, look, reads, writes}
+use Rattle.rules.specs.Counting.{Event, unheld}
+use Rattle.rules.specs.Tables.{NameRow, Counts, Room, fill, no-rows, look, writes}
 use Rattle.rules.specs.Rings.{component, closed, discount}
 use Rattle.rules.specs.Removal.{Config, By, Place, Verdict, unused, never-read, can-drop-binding, name-goes, all-go, place-inside, entered, verdict, treat, declarator-names, takes, gives, taken, gave}
 use Rattle.rules.specs.Removal.Verdict.{stays, sweeps, empties, unlinks, restates, yields, unwraps}
 use Rattle.rules.specs.Law.{In, Reference}
 use Rattle.laws.proofs.Listed.{in-append}
 use Rattle.laws.proofs.Verdicts.{Unused, Means, means, can-unused}
-use Rattle.laws.proofs.Looks.{grown}
 use Rattle.laws.proofs.Graphs.{event-row, event-edge}
 use Rattle.laws.proofs.ClosedRings.{closed-edge, closed-entry, open-row}
 

@@ -4,16 +4,15 @@
 --   event-row, event-edge      by an event
 --   counted-only               back
 use Prim.Native.Nat.{ℕ, _+_}
-use mathlib.Core.Path.{_≡_, refl, sym, ap, subst, _∙_}
-use mathlib.Core.Bool.{Bool, true, false, _&&_, _||_}
+use mathlib.Core.Path.{_≡_, refl, sym, ap, subst}
+use mathlib.Core.Bool.{Bool, true, false}
 use mathlib.Core.List.{List, [], _∷_, _++_}
-use mathlib.Core.Logic.{_⊎_, inl, inr, ⊎-elim}
+use mathlib.Core.Logic.{inl, inr, ⊎-elim}
 use Rattle.std.proofs.shelf.Tests.{cond-both, both-ways}
-use Rattle.rules.specs.Tree.{Name, if_then_else_}
-use Rattle.rules.specs.Refusals.{Outcome, andThen}
-use Rattle.rules.specs.Refusals.Outcome.{fine, refused}
+use Rattle.rules.specs.Tree.{Name}
+use Rattle.rules.specs.Refusals.Outcome.{fine}
 use Rattle.rules.specs.Counting.{Event}
-use Rattle.rules.specs.Tables.{NameRow, EdgeRow, Counts, Room, no-rows, change, look, fresh, row-of, edge-of, reads, writes, need-name, need-edge, grow-edge, grow-name, hold, enter, fill}
+use Rattle.rules.specs.Tables.{NameRow, EdgeRow, Counts, Room, no-rows, change, look, edge-of, reads, writes, need-name, need-edge, grow-edge, grow-name, hold, enter, fill}
 use Rattle.rules.specs.Rings.{Edge}
 use Rattle.rules.specs.Law.{In, Counted}
 use Rattle.rules.proofs.Fuel.{then-fine}

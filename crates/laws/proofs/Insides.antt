@@ -1,8 +1,8 @@
 -- A counted reference with holders stands inside a declaration of each of them: a name is on a path only below its declaration.
 use Prim.Native.Nat.{ℕ}
-use mathlib.Core.Path.{_≡_, refl, sym, ap, subst}
+use mathlib.Core.Path.{_≡_, sym, ap, subst}
 use mathlib.Core.Bool.{Bool, true, false, _||_}
-use mathlib.Core.List.{List, [], _∷_, _++_}
+use mathlib.Core.List.{List, [], _∷_}
 use mathlib.Core.Logic.{_⊎_, inl, inr, ⊎-elim}
 use Rattle.std.proofs.shelf.Tests.{cond-both}
 use Rattle.rules.specs.Tree.{Head, Chain, Name, if_then_else_, _is_, nameOf}
@@ -10,7 +10,7 @@ use Rattle.rules.specs.Tree.Chain.{end, link}
 use Rattle.rules.specs.Kinds.{export-name, fn-declaration, class-declaration, identifier, call-expression, name-pattern, property-name}
 use Rattle.rules.specs.Names.{among}
 use Rattle.rules.specs.Held.{Numbers}
-use Rattle.rules.specs.Counting.{Event, Found, Around, Role, refer, holders, put, nothing, reference, reading, writing, named-here, own, opens, inside, outermost, count, events-of}
+use Rattle.rules.specs.Counting.{Event, Found, Around, Role, refer, holders, put, nothing, reference, reading, writing, named-here, own, opens, inside, outermost, events-of}
 use Rattle.rules.specs.Counting.Role.{declared-here, written, read-and-written}
 use Rattle.rules.specs.Law.{In, Reference, Inside}
 use Rattle.laws.proofs.Listed.{in-append}

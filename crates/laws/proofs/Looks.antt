@@ -4,9 +4,9 @@
 --   grown                        a row after an event of its name
 --   look-name                    the row that is read bears the name
 --   look-fresh, look-grown       what is read after a change
-use Prim.Native.Nat.{ℕ, _+_}
-use mathlib.Core.Path.{_≡_, refl, sym, ap, subst, _∙_}
-use mathlib.Core.Bool.{Bool, true, false, cond, _||_}
+use Prim.Native.Nat.{_+_}
+use mathlib.Core.Path.{_≡_, refl, sym, ap, subst}
+use mathlib.Core.Bool.{Bool, true, false, _||_}
 use mathlib.Core.List.{List, [], _∷_, _++_}
 use mathlib.Core.Logic.{_⊎_, inl, inr, ⊎-elim}
 use Rattle.std.proofs.shelf.Tests.{cond-both, both-ways, or-cases, or-left, or-right, cases-bool}

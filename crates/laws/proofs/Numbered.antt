@@ -1,24 +1,21 @@
 -- The refusals of the check and of the tables have numbers from 1: none is told as 0.
 use Prim.Native.Nat.{ℕ, zero, suc, _≤_}
 use native.Mathlib.Omega.{arith}
-use mathlib.Core.Path.{_≡_, refl}
 use mathlib.Core.Bool.{Bool, true, false, not, _||_}
-use mathlib.Core.List.{List, [], _∷_, _++_}
+use mathlib.Core.List.{List, [], _∷_}
 use lib.Dec.{eqb, ltb}
 use lib.ListN.{length}
-use Rattle.std.proofs.shelf.Tests.{cond-both}
 use Rattle.rules.specs.Tree.{Head, Chain, Name, nameOf, if_then_else_}
-use Rattle.rules.specs.Tree.Chain.{end, link}
 use Rattle.rules.specs.Kinds.{member}
 use Rattle.rules.specs.Grammar.{Way, words-fit, children-of, step, misplaced, may-end, root}
-use Rattle.rules.specs.Refusals.{Outcome, andThen, bad-lengths, bad-link, too-deep, bad-record, declared-full, names-full, edges-full}
+use Rattle.rules.specs.Refusals.{Outcome, andThen, bad-link, too-deep, bad-record, declared-full, names-full, edges-full}
 use Rattle.rules.specs.Refusals.Outcome.{fine, refused}
 use Rattle.rules.specs.Words.{first-child, next, headAt, records}
-use Rattle.rules.specs.Check.{Read, most-nesting, tree-fits, take, stop, walk, check-root, check}
+use Rattle.rules.specs.Check.{Read, most-nesting, tree-fits, take, stop, walk, check}
 use Rattle.rules.specs.Names.{same, declared}
 use Rattle.rules.specs.Counting.{Event, events-of}
-use Rattle.rules.specs.Tables.{NameRow, EdgeRow, Counts, Room, need, declare, fresh, row-of, edge-of, need-name, need-edge, grow-edge, grow-name, hold, enter, fill, no-rows, some-row}
-use Rattle.rules.specs.Calls.{Filled, fill-declared, fill-tables}
+use Rattle.rules.specs.Tables.{EdgeRow, Counts, Room, need, declare, fresh, row-of, edge-of, need-name, need-edge, grow-edge, hold, enter, fill, no-rows, some-row}
+use Rattle.rules.specs.Calls.{fill-declared, fill-tables}
 
 -- a result, or a refusal with a number from 1
 abbrev pub Numbered : {A : Type 0} → Outcome A → Type 0

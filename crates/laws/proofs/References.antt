@@ -1,16 +1,16 @@
 -- The references part of the law about runs. A reference that is left at the end was counted in the tree that the pass found, since
 -- references never grow; its name being free, it has holders, all of the name's closed ring, and it stands inside the first of them.
 use Prim.Native.Nat.{ℕ, zero, suc}
-use mathlib.Core.Path.{_≡_, refl, sym, ap, subst, _∙_}
+use mathlib.Core.Path.{_≡_, refl, sym, subst}
 use mathlib.Core.Bool.{Bool, true, false}
 use mathlib.Core.List.{List, [], _∷_, _++_}
-use mathlib.Core.Logic.{_⊎_, inl, inr, ⊎-elim}
+use mathlib.Core.Logic.{_⊎_, inl, ⊎-elim}
 use Rattle.std.proofs.shelf.Tests.{both-ways}
 use Rattle.rules.specs.Tree.{Chain, Name}
 use Rattle.rules.specs.Refusals.{Outcome}
-use Rattle.rules.specs.Refusals.Outcome.{fine, refused}
+use Rattle.rules.specs.Refusals.Outcome.{fine}
 use Rattle.rules.specs.Counting.{Event, unheld, outermost, events-of}
-use Rattle.rules.specs.Removal.{Config, By, at-root, treat, taken, gave}
+use Rattle.rules.specs.Removal.{Config, at-root, taken, gave}
 use Rattle.rules.specs.Calls.{State, Pass, After, Call, Answer, cleared, pass-by, remove, passed, pass-once, passes-from, reached-by, call-fitting, call, calls, final, passes-made}
 use Rattle.rules.specs.Calls.Call.{pass, reset, repeat}
 use Rattle.rules.specs.Law.{In, Reference, Inside-ring, begun-on, tree-of}

@@ -5,23 +5,19 @@
 --   with-role                       the same surroundings with another role of a Name pattern
 --   refers-append, refers-swept, refers-after, refers-below, refers-moved      what moves
 --   refers-joined                   the values of a Var's Declarators
-use Prim.Native.Nat.{ℕ}
 use mathlib.Core.Path.{_≡_, refl, sym, subst}
-use mathlib.Core.Bool.{Bool, true, false, _&&_, _||_}
-use mathlib.Core.List.{List, [], _∷_}
+use mathlib.Core.Bool.{true, false}
+use mathlib.Core.List.{List}
 use mathlib.Core.Logic.{_⊎_, inl, inr, ⊎-elim}
-use lib.Dec.{eqb}
 use Rattle.std.proofs.shelf.Tests.{cond-both, both-ways}
-use Rattle.rules.specs.Tree.{Head, Chain, _is_, isEnd, below, after, alone, append}
+use Rattle.rules.specs.Tree.{Head, Chain, _is_, isEnd, after, alone, append}
 use Rattle.rules.specs.Tree.Chain.{end, link}
-use Rattle.rules.specs.Kinds.{expression, export-declaration, var-declaration, declarator, plain-expression, name-pattern, property-name, compound-pattern, default-pattern}
-use Rattle.rules.specs.Names.{nests}
+use Rattle.rules.specs.Kinds.{expression, export-declaration, var-declaration, declarator, plain-expression, name-pattern, compound-pattern, default-pattern}
 use Rattle.rules.specs.Counting.{Event, Around, Role, reading, own, inside}
-use Rattle.rules.specs.Counting.Role.{declared-here, written, read-and-written}
+use Rattle.rules.specs.Counting.Role.{declared-here, written}
 use Rattle.rules.specs.Removal.{swept, become, values, joined}
 use Rattle.rules.specs.Law.{In}
 use Rattle.laws.proofs.SoundTrees.{first-kind, Sound}
-use Rattle.laws.proofs.SoundKept.{sound-after}
 use Rattle.laws.proofs.Exported.{Exports, other-kind}
 
 -- the record h refers: for a name that it exports, or by itself

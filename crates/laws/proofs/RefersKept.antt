@@ -2,14 +2,13 @@
 -- tree that it found.
 use Prim.Native.Nat.{ℕ}
 use mathlib.Core.Path.{_≡_, refl, sym, subst}
-use mathlib.Core.Bool.{Bool, true, false}
-use mathlib.Core.List.{List, [], _∷_}
-use mathlib.Core.Logic.{_⊎_, inl, inr, ⊎-elim}
+use mathlib.Core.Bool.{false}
+use mathlib.Core.Logic.{inl, inr, ⊎-elim}
 use Rattle.std.proofs.shelf.Tests.{both-ways}
 use Rattle.rules.specs.Tree.{Head, Chain, isEnd, after}
 use Rattle.rules.specs.Tree.Chain.{end, link}
+use Rattle.rules.specs.Kinds.{assignment}
 use Rattle.rules.specs.Counting.{Event, Around, role-in, inside}
-use Rattle.rules.specs.Counting.Role.{written}
 use Rattle.rules.specs.Removal.{By, Place, Left, Verdict, place-inside, entered, swept, verdict, done, treated, treat}
 use Rattle.rules.specs.Removal.Verdict.{stays, sweeps, empties, unlinks, restates, yields, unwraps}
 use Rattle.laws.proofs.Verdicts.{Means, means}
@@ -42,7 +41,7 @@ module _ (e : Event) where
     inr (inl (t (subst (λ (o : Around). Refers o (inner .chain) e) (sym (inside-assignment a h (m .kind)))
       (refers-after e (with-role a (role-in (a .role) h)) (inner .chain) (refers-moved e a (a .role) (role-in (a .role) h) (after (inner .chain)) (inr (k .value (m .kind))) x)))))
     where
-      inside-assignment : (a : Around) (h : Head) → h .kind ≡ 36 → inside a h ≡ with-role a (role-in (a .role) h)
+      inside-assignment : (a : Around) (h : Head) → h .kind ≡ assignment → inside a h ≡ with-role a (role-in (a .role) h)
       inside-assignment a h k = rw k
   done-refers by p a h found inner k xs t unwraps m x = inr (inl (t (refers-unwrapped e a h (inner .chain) (k .sound) m x)))
 

@@ -4,28 +4,26 @@
 --   treat-used          a removal that changes nothing leaves only used removable functions
 --   pass-used           so they are counted
 use Prim.Native.Nat.{ℕ}
-use mathlib.Core.Path.{_≡_, refl, sym, ap, subst, _∙_}
-use mathlib.Core.Bool.{Bool, true, false, not, _&&_, _||_}
-use mathlib.Core.List.{List, [], _∷_}
+use mathlib.Core.Path.{_≡_, refl, sym, subst, _∙_}
+use mathlib.Core.Bool.{Bool, true, false, not}
 use mathlib.Core.Logic.{_⊎_, inl, inr, ⊎-elim}
 use lib.Dec.{eqb}
 use Rattle.std.proofs.shelf.Tests.{cond-both, and-parts, and-from, both-ways, or-parts, cases-bool, not-false}
 use Rattle.rules.specs.Tree.{Head, Chain, Name, _is_, nameOf, isEnd, append}
 use Rattle.rules.specs.Tree.Chain.{end, link}
 use Rattle.rules.specs.Kinds.{fn-declaration, for-statement}
-use Rattle.rules.specs.Refusals.Outcome.{fine}
-use Rattle.rules.specs.Counting.{Found, Around, outermost, count, events-of}
+use Rattle.rules.specs.Counting.{Found, outermost, events-of}
 use Rattle.rules.specs.Tables.{NameRow, look}
 use Rattle.rules.specs.Rings.{discount}
-use Rattle.rules.specs.Removal.{Config, By, Place, Left, Verdict, at-root, permitted, retained, unused, place-inside, entered, has-list, swept, fn-goes, both, verdict, done, treated, treat}
+use Rattle.rules.specs.Removal.{Config, By, Place, Left, Verdict, at-root, permitted, retained, unused, place-inside, entered, has-list, swept, fn-goes, verdict, done, treated, treat}
 use Rattle.rules.specs.Removal.Verdict.{stays, sweeps, empties, unlinks, restates, yields, unwraps}
 use Rattle.rules.specs.Calls.{Pass, pass-by, remove}
 use Rattle.rules.specs.Law.{removable, Removable, Counted}
 use Rattle.laws.proofs.Verdicts.{Means, means}
-use Rattle.laws.proofs.SoundTrees.{Sound, treated-both}
+use Rattle.laws.proofs.SoundTrees.{Sound, by-list, treated-both}
 use Rattle.laws.proofs.Graphs.{counted-only}
 use Rattle.laws.proofs.ClosedRings.{counted-row}
-use Rattle.laws.proofs.Runs.{Full, by-list}
+use Rattle.laws.proofs.Runs.{Full}
 use Rattle.laws.proofs.Unchanged.{treat-same}
 
 -- outside a For it does not matter whether a record is the last

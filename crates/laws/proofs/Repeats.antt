@@ -3,25 +3,25 @@
 --
 --   Run, from-run                        the passes of a repeat
 --   repeats-law, bound-never-ends        the theorems
-use Prim.Native.Nat.{ℕ, zero, suc, _+_, _≤_, _<_}
+use Prim.Native.Nat.{ℕ, zero, suc, _≤_, _<_}
 use native.Mathlib.Omega.{arith}
-use mathlib.Core.Path.{_≡_, refl, sym, ap, subst, _∙_}
-use mathlib.Core.Bool.{Bool, true, false, _||_}
-use mathlib.Core.List.{List, [], _∷_}
-use mathlib.Core.Logic.{_⊎_, inl, inr, ⊎-elim}
+use mathlib.Core.Path.{_≡_, refl, sym, ap, subst}
+use mathlib.Core.Bool.{Bool, true, false}
+use mathlib.Core.List.{[], _∷_}
+use mathlib.Core.Logic.{⊎-elim}
 use lib.ListN.{length}
 use Rattle.std.proofs.shelf.Tests.{both-ways, or-cases, or-parts}
 use Rattle.rules.specs.Tree.{Chain, Name, reached}
 use Rattle.rules.specs.Tree.Chain.{end, link}
-use Rattle.rules.specs.Refusals.{Outcome, bad-lengths}
+use Rattle.rules.specs.Refusals.{Outcome}
 use Rattle.rules.specs.Refusals.Outcome.{fine, refused}
 use Rattle.rules.specs.Counting.{events-of}
-use Rattle.rules.specs.Removal.{Config, at-root, treat}
-use Rattle.rules.specs.Calls.{State, Pass, After, Call, Answer, Repeated, cleared, pass-by, remove, passed, pass-once, passes-from, reached-by, repeat-ended, repeat-passes, call-fitting, unfit-answer, call}
+use Rattle.rules.specs.Removal.{Config, at-root}
+use Rattle.rules.specs.Calls.{State, Pass, After, Call, Answer, cleared, pass-by, remove, passed, pass-once, passes-from, reached-by, repeat-ended, call-fitting, unfit-answer}
 use Rattle.rules.specs.Calls.Call.{pass, reset, repeat}
-use Rattle.rules.specs.Calls.Answer.{pass-answer, reset-answer, repeat-answer}
+use Rattle.rules.specs.Calls.Answer.{repeat-answer}
 use Rattle.rules.specs.Calls.Repeated.{repeated, stopped}
-use Rattle.rules.specs.Law.{In, begun-on, tree-of, Removable, Counted, Repeat-kept}
+use Rattle.rules.specs.Law.{begun-on, tree-of, Removable, Counted, Repeat-kept}
 use Rattle.laws.specs.RepeatsLaw.{Repeats-law, Bound-never-ends}
 use Rattle.laws.proofs.Fills.{refused-fine}
 use Rattle.laws.proofs.Numbered.{Numbered}

@@ -8,25 +8,23 @@
 --   call-cases, called-one        a call; each answer of a list is that of a call on a ready state
 use Prim.Native.Nat.{ℕ, zero, suc, _≤_}
 use mathlib.Core.Path.{_≡_, refl, sym, ap, subst, _∙_}
-use mathlib.Core.Bool.{Bool, true, false, _||_}
+use mathlib.Core.Bool.{Bool, true, false}
 use mathlib.Core.List.{List, [], _∷_, _++_}
-use mathlib.Core.Logic.{_⊎_, inl, inr, ⊎-elim}
-use Rattle.std.proofs.shelf.Tests.{both-ways}
-use Rattle.rules.specs.Tree.{Head, Chain, Name, _is_, isEnd, append}
+use mathlib.Core.Logic.{⊎-elim}
+use Rattle.rules.specs.Tree.{Head, Chain, Name, isEnd, append}
 use Rattle.rules.specs.Tree.Chain.{end, link}
 use Rattle.rules.specs.Refusals.{Outcome}
 use Rattle.rules.specs.Refusals.Outcome.{fine, refused}
-use Rattle.rules.specs.Kinds.{module-root, script-root, block}
 use Rattle.rules.specs.Check.{check}
 use Rattle.rules.specs.Counting.{events-of}
 use Rattle.rules.specs.Tables.{Room, room, fill, no-rows, read-declared}
 use Rattle.rules.specs.Removal.{Config, By, Place, Left, Verdict, at-root, place-inside, entered, has-list, swept, verdict, done, treated, treat}
 use Rattle.rules.specs.Removal.Verdict.{sweeps}
-use Rattle.rules.specs.Calls.{State, Handed, Filled, Pass, After, Call, Answer, Repeated, handed-fit, cleared, filled-up, fill-declared, fill-tables, pass-by, remove, passed, pass-filled, pass-checked, pass-once, passes-from, reached-by, call-fitting, unfit-answer, call, calls, final, passes-made}
+use Rattle.rules.specs.Calls.{State, Handed, Filled, Pass, After, Call, Answer, handed-fit, cleared, filled-up, fill-declared, fill-tables, pass-by, passed, pass-filled, pass-checked, pass-once, passes-from, reached-by, call-fitting, unfit-answer, call, calls}
 use Rattle.rules.specs.Calls.Call.{pass, reset, repeat}
-use Rattle.rules.specs.Law.{In, begun-on, tree-of}
+use Rattle.rules.specs.Law.{In, begun-on}
 use Rattle.rules.proofs.Fuel.{then-fine}
-use Rattle.laws.proofs.SoundTrees.{Sound, Each, each-member, with-kind, treated-both}
+use Rattle.laws.proofs.SoundTrees.{Sound, by-list, treated-both}
 use Rattle.laws.proofs.SoundKept.{treat-sound}
 use Rattle.laws.proofs.SoundChecked.{Rooted, check-sound-tree}
 use Rattle.laws.proofs.Fills.{fine-eq}
@@ -42,16 +40,6 @@ later-then here m = m
 later-then (onward by c l) m = onward by c (later-then l m)
 
 -- ROOTS
-
--- a fact on a record that has a list, by its kind
-pub by-list : (P : Head → Type 0) (h : Head) → has-list h ≡ true → P (with-kind h module-root) → P (with-kind h script-root) → P (with-kind h block) → P h
-by-list P h g x y z = each-member (λ (k : ℕ). P (with-kind h k)) (h .kind) (module-root ∷ script-root ∷ block ∷ []) (x, (y, (z, tt))) (listed (h is module-root) (h is script-root) (h is block) g)
-  where
-    listed : (a b c : Bool) → (a || (b || c)) ≡ true → (a || (b || (c || false))) ≡ true
-    listed true b c g = refl
-    listed false true c g = refl
-    listed false false true g = refl
-    listed false false false g = g
 
 list-verdict : (by : By) (p : Place) (h : Head) (found children : Chain) → has-list h ≡ true → verdict by p h found children ≡ sweeps
 list-verdict by p h found children g = by-list (λ (h : Head). verdict by p h found children ≡ sweeps) h g refl refl refl

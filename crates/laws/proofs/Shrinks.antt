@@ -2,9 +2,9 @@
 -- Empty, the record that is unlinked or gives way, or the name patterns of the Declarators that are restated.
 use Prim.Native.Nat.{ℕ, _+_, _≤_, _<_}
 use native.Mathlib.Omega.{arith}
-use mathlib.Core.Path.{_≡_, refl, sym, subst}
-use mathlib.Core.Bool.{Bool, true, false, _&&_, _||_}
-use mathlib.Core.Logic.{_⊎_, inl, inr, ⊎-elim}
+use mathlib.Core.Path.{_≡_, refl}
+use mathlib.Core.Bool.{Bool, true, false}
+use mathlib.Core.Logic.{⊎-elim}
 use lib.Dec.{eqb}
 use Rattle.std.proofs.shelf.Tests.{cond-both, and-parts, both-ways, or-cases, eq-eqb}
 use Rattle.rules.specs.Tree.{Head, Chain, isEnd, below, after, alone, append, reached, first-is, first-name}

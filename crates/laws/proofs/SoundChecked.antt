@@ -4,25 +4,25 @@
 --   formed-one, formed-maybe, formed-many, formed-none      what a way asks of a chain
 --   formed-sound                                            a formed chain is sound
 --   Rooted, check-sound-tree                                 what the check takes
-use Prim.Native.Nat.{ℕ, _≤_}
+use Prim.Native.Nat.{ℕ}
 use native.Mathlib.Omega.{arith}
-use mathlib.Core.Path.{_≡_, refl, sym, ap, subst, _∙_}
-use mathlib.Core.Bool.{Bool, true, false, cond, not, _&&_, _||_}
+use mathlib.Core.Path.{_≡_, refl, subst}
+use mathlib.Core.Bool.{Bool, true, false, not, _||_}
 use mathlib.Core.List.{List, [], _∷_, _++_}
 use mathlib.Core.Logic.{_⊎_, inl, inr, ⊎-elim}
 use lib.Dec.{eqb, leb}
-use Rattle.std.proofs.shelf.Tests.{and-parts, both-ways, or-cases, eqb-true, eqb-false, leb-true, cases-eq, cases-bool}
-use Rattle.rules.specs.Tree.{Head, Chain, if_then_else_, _is_, flagged, isEnd, after}
+use Rattle.std.proofs.shelf.Tests.{and-parts, both-ways, or-cases, eqb-true, eqb-false, leb-true, cases-eq}
+use Rattle.rules.specs.Tree.{Head, Chain, if_then_else_, flagged, isEnd, after}
 use Rattle.rules.specs.Tree.Chain.{end, link}
-use Rattle.rules.specs.Kinds.{member, only, pattern, expression, module-root, script-root, empty-statement, fn-declaration, class-declaration, var-declaration, declarator, function, class-body, identifier, function-expression, plain-expression, assignment, name-pattern, compound-pattern, default-pattern, expression-pattern}
-use Rattle.rules.specs.Grammar.{Part, Way, assigned, children-of, step, misplaced, root}
+use Rattle.rules.specs.Kinds.{only, pattern, expression, module-root, script-root, empty-statement, block, fn-declaration, class-declaration, var-declaration, declarator, function, class-body, identifier, function-expression, plain-expression, assignment, name-pattern, compound-pattern, default-pattern, expression-pattern}
+use Rattle.rules.specs.Grammar.{Way, assigned, children-of, step, misplaced, root}
 use Rattle.rules.specs.Grammar.Part.{one, maybe, many}
 use Rattle.rules.specs.Refusals.Outcome.{fine}
 use Rattle.rules.specs.Check.{check}
 use Rattle.rules.specs.Held.{Formed}
 use Rattle.rules.specs.Removal.{has-list}
 use Rattle.rules.proofs.Sounds.{check-sound}
-use Rattle.laws.proofs.SoundTrees.{first-kind, steady, Binds, Kinds, Sound, with-kind}
+use Rattle.laws.proofs.SoundTrees.{first-kind, steady, Kinds, Sound, with-kind}
 
 -- WAYS
 
@@ -123,7 +123,7 @@ abbrev pub Rooted : Chain → Type 0
 Rooted end = ⊥
 Rooted (link h cs rest) = has-list h ≡ true
 
-root-kinds : (k : ℕ) → (eqb k module-root || eqb k script-root) ≡ true → (eqb k module-root || (eqb k script-root || eqb k 10)) ≡ true
+root-kinds : (k : ℕ) → (eqb k module-root || eqb k script-root) ≡ true → (eqb k module-root || (eqb k script-root || eqb k block)) ≡ true
 root-kinds k g = ⊎-elim (λ x. rw x) (λ x. let e = eqb-true k script-root x in rw e) (or-cases (eqb k module-root) (eqb k script-root) g)
 
 formed-rooted : (c : Chain) → Formed root c → Rooted c

@@ -3,18 +3,18 @@
 -- expression ask for nothing that their new children lack.
 use Prim.Native.Nat.{ℕ}
 use mathlib.Core.Path.{_≡_, refl, sym, subst, _∙_}
-use mathlib.Core.Bool.{Bool, true, false}
+use mathlib.Core.Bool.{true, false}
 use mathlib.Core.List.{List, [], _∷_}
 use mathlib.Core.Logic.{_⊎_, inl, inr, ⊎-elim}
 use lib.Dec.{eqb}
-use Rattle.std.proofs.shelf.Tests.{cond-both, and-from, both-ways, or-cases, eq-eqb, eqb-true, eqb-false, cases-bool}
+use Rattle.std.proofs.shelf.Tests.{cond-both, and-from, both-ways, eq-eqb, eqb-false, cases-bool}
 use Rattle.rules.specs.Tree.{Head, Chain, _is_, isEnd, below, after, alone, append}
 use Rattle.rules.specs.Tree.Chain.{end, link}
-use Rattle.rules.specs.Kinds.{expression, module-root, script-root, empty-statement, block, expression-statement, fn-declaration, class-declaration, var-declaration, declarator, identifier, function-expression, plain-expression, assignment}
+use Rattle.rules.specs.Kinds.{member, expression, module-root, script-root, empty-statement, block, expression-statement, fn-declaration, class-declaration, var-declaration, declarator, identifier, function-expression, plain-expression, assignment}
 use Rattle.rules.specs.Removal.{By, Place, Left, Verdict, place-inside, entered, has-list, swept, wrapped-object, var-emptied, become, values, joined, verdict, done, treated, treat}
 use Rattle.rules.specs.Removal.Verdict.{stays, sweeps, empties, unlinks, restates, yields, unwraps}
-use Rattle.laws.proofs.Verdicts.{Means, means, Emptied, emptying-kind}
-use Rattle.laws.proofs.SoundTrees.{first-kind, steady, Binds, Kinds, Sound, treated-both, treat-heads, wraps, alone-kind, treat-expression}
+use Rattle.laws.proofs.Verdicts.{Means, means, emptying-kind}
+use Rattle.laws.proofs.SoundTrees.{first-kind, steady, Kinds, Sound, by-list, treated-both, treat-heads, wraps, treat-expression}
 
 treat-end : (by : By) (p : Place) (c : Chain) → isEnd c ≡ true → isEnd (treat by p c .chain) ≡ true
 treat-end by p end g = refl
@@ -65,17 +65,26 @@ kept-value by p above h cs k s e =
   subst (λ (d : Chain). expression (first-kind d) ≡ true) (sym (treat-heads by p cs (a .0) .rest))
     (treat-expression by p (h .kind) (after cs) (sound-after (h .kind) cs s) (a .1))
 
+-- the kinds that ask something of their children, Empty apart
+abbrev demanding : List ℕ
+demanding = fn-declaration ∷ class-declaration ∷ function-expression ∷ var-declaration ∷ assignment ∷ declarator ∷ identifier ∷ []
+
+-- a record of another kind
+free-kinds : (above : ℕ) (h : Head) (cs : Chain) → member (h .kind) demanding ≡ false → (above ≡ var-declaration → h .kind ≡ declarator)
+  → (h .kind ≡ empty-statement → isEnd cs ≡ true) → Kinds above h cs
+free-kinds above h cs g declarators empty = record {
+  fn = λ x. absurd (other fn-declaration x refl); class = λ x. absurd (other class-declaration x refl); callee = λ x. absurd (other function-expression x refl);
+  declarators = declarators; var = λ x. absurd (other var-declaration x refl); assigns = λ x. absurd (other assignment x refl);
+  binds = λ x. absurd (other declarator x refl); name = λ x. absurd (other identifier x refl); empty = empty }
+  where
+    other : (m : ℕ) → h .kind ≡ m → member m demanding ≡ true → ⊥
+    other m x t = both-ways (member m demanding) (subst (λ (j : ℕ). member j demanding ≡ false) x g) t
+
 -- the kind of a list asks nothing of its children
 kinds-list : (above : ℕ) (h : Head) (cs ds : Chain) → has-list h ≡ true → Kinds above h cs → Kinds above h ds
-kinds-list above h cs ds g k = record {
-  fn = λ x. absurd (none fn-declaration x refl refl refl); class = λ x. absurd (none class-declaration x refl refl refl);
-  callee = λ x. absurd (none function-expression x refl refl refl); declarators = k .declarators;
-  var = λ x. absurd (none var-declaration x refl refl refl); assigns = λ x. absurd (none assignment x refl refl refl);
-  binds = λ x. absurd (none declarator x refl refl refl); name = λ x. absurd (none identifier x refl refl refl);
-  empty = λ x. absurd (none empty-statement x refl refl refl) }
-  where
-    none : (m : ℕ) → h .kind ≡ m → eqb m module-root ≡ false → eqb m script-root ≡ false → eqb m block ≡ false → ⊥
-    none m x a b c = both-ways false refl (rw (x, a, b, c) at g)
+kinds-list above h cs ds g k = free-kinds above h ds
+  (by-list (λ (h : Head). member (h .kind) demanding ≡ false) h g refl refl refl) (k .declarators)
+  (λ x. absurd (by-list (λ (h : Head). h .kind ≡ empty-statement → ⊥) h g (eqb-false module-root empty-statement refl) (eqb-false script-root empty-statement refl) (eqb-false block empty-statement refl) x))
 
 -- an expression may stand anywhere but in a Var
 kinds-moved : (above other : ℕ) (h : Head) (cs : Chain) → expression (h .kind) ≡ true → (other ≡ var-declaration → ⊥) → Kinds above h cs → Kinds other h cs
@@ -100,34 +109,18 @@ sound-values other (link d parts rest) away s =
     (sound-alone (d .kind) other (after parts) (s .0 .binds (s .0 .declarators refl) .value) away (sound-after (d .kind) parts (s .1)))
     (sound-values other rest away (s .2))
 
--- what asks for nothing
-plain-kinds : (above k : ℕ) (h : Head) (cs : Chain) → (k ≡ fn-declaration → ⊥) → (k ≡ class-declaration → ⊥) → (k ≡ function-expression → ⊥)
-  → (k ≡ declarator → ⊥) → (k ≡ var-declaration → ⊥) → (k ≡ assignment → ⊥) → (k ≡ identifier → ⊥) → (k ≡ empty-statement → isEnd cs ≡ true)
-  → (above ≡ var-declaration → ⊥) → Kinds above (become k h) cs
-plain-kinds above k h cs no-fn no-class no-callee no-declarator no-var no-assignment no-name empty away = record {
-  fn = λ x. absurd (no-fn x); class = λ x. absurd (no-class x); callee = λ x. absurd (no-callee x); declarators = λ x. absurd (away x);
-  var = λ x. absurd (no-var x); assigns = λ x. absurd (no-assignment x); binds = λ x. absurd (no-declarator x); name = λ x. absurd (no-name x); empty = empty }
-
-kinds-empty : (above : ℕ) (h : Head) → (above ≡ var-declaration → ⊥) → Kinds above (become empty-statement h) end
-kinds-empty above h = let no = eqb-false empty-statement in
-  plain-kinds above empty-statement h end (no fn-declaration refl) (no class-declaration refl) (no function-expression refl) (no declarator refl) (no var-declaration refl) (no assignment refl) (no identifier refl) (λ _. refl)
-
-kinds-statement : (above : ℕ) (h : Head) (cs : Chain) → (above ≡ var-declaration → ⊥) → Kinds above (become expression-statement h) cs
-kinds-statement above h cs = let no = eqb-false expression-statement in
-  plain-kinds above expression-statement h cs (no fn-declaration refl) (no class-declaration refl) (no function-expression refl) (no declarator refl) (no var-declaration refl) (no assignment refl) (no identifier refl) (λ x. absurd (no empty-statement refl x))
-
-kinds-plain : (above : ℕ) (h : Head) (cs : Chain) → (above ≡ var-declaration → ⊥) → Kinds above (become plain-expression h) cs
-kinds-plain above h cs = let no = eqb-false plain-expression in
-  plain-kinds above plain-expression h cs (no fn-declaration refl) (no class-declaration refl) (no function-expression refl) (no declarator refl) (no var-declaration refl) (no assignment refl) (no identifier refl) (λ x. absurd (no empty-statement refl x))
+-- what rules put in a record's place asks for nothing
+kinds-become : (above k : ℕ) (h : Head) (cs : Chain) → member k demanding ≡ false → (above ≡ var-declaration → ⊥) → (k ≡ empty-statement → isEnd cs ≡ true) → Kinds above (become k h) cs
+kinds-become above k h cs g away empty = free-kinds above (become k h) cs g (λ x. absurd (away x)) empty
 
 sound-joined : (c : Chain) → Sound var-declaration c → Sound expression-statement (joined c)
 sound-joined end s = tt
 sound-joined (link d parts rest) s =
   let all = values (link d parts rest) in
-  let no = eqb-false expression-statement var-declaration refl in
+  let away = eqb-false expression-statement var-declaration refl in
   cond-both (isEnd (after all)) all (link (become plain-expression d) all end) (λ (l : Chain). Sound expression-statement l)
-    (λ _. sound-values expression-statement (link d parts rest) no s)
-    (λ _. (kinds-plain expression-statement d all no, sound-values plain-expression (link d parts rest) (eqb-false plain-expression var-declaration refl) s, tt))
+    (λ _. sound-values expression-statement (link d parts rest) away s)
+    (λ _. (kinds-become expression-statement plain-expression d all refl away (λ x. absurd (eqb-false plain-expression empty-statement refl x)), sound-values plain-expression (link d parts rest) (eqb-false plain-expression var-declaration refl) s, tt))
 
 -- the parent of another record than a Declarator is no Var
 away-from : (above : ℕ) (h : Head) (cs : Chain) → Kinds above h cs → eqb (h .kind) declarator ≡ false → above ≡ var-declaration → ⊥
@@ -147,11 +140,11 @@ done-sound by p above h cs k s t sweeps m =
   let bs = treat by (place-inside p h) cs .chain in
   (kinds-list above h cs (swept bs) m k, sound-swept (h .kind) bs t, tt)
 done-sound by p above h cs k s t (empties ns) m =
-  (kinds-empty above h (away-from above h cs k (emptying-kind (λ (j : ℕ). eqb j declarator ≡ false) h cs refl refl refl refl (m .which))), tt, tt)
+  (kinds-become above empty-statement h end refl (away-from above h cs k (emptying-kind (λ (j : ℕ). eqb j declarator ≡ false) h cs refl refl refl refl (m .which))) (λ _. refl), tt, tt)
 done-sound by p above h cs k s t (unlinks n) m = tt
 done-sound by p above h cs k s t restates m =
   let bs = treat by (place-inside p h) cs .chain in
-  (kinds-statement above h (joined bs) (away-from above h cs k (rw (m .kind))), sound-joined bs (subst (λ (j : ℕ). Sound j bs) (m .kind) t), tt)
+  (kinds-become above expression-statement h (joined bs) refl (away-from above h cs k (rw (m .kind))) (λ x. absurd (eqb-false expression-statement empty-statement refl x)), sound-joined bs (subst (λ (j : ℕ). Sound j bs) (m .kind) t), tt)
 done-sound by p above h cs k s t (yields n) m =
   let bs = treat by (place-inside p h) cs .chain in
   sound-alone (h .kind) above (after bs) (inr (kept-value by (place-inside p h) above h cs k s (m .kind))) (away-from above h cs k (rw (m .kind))) (sound-after (h .kind) bs t)

@@ -3,23 +3,24 @@
 --
 --   first-kind, steady, each-member      the kind of a chain's first record; the kinds that no rule touches
 --   Kinds, Sound                         what is asked of a record, by its parent's kind and its children; of each record
+--   by-list                              a fact on a record that has a list
 --   treated-both                         what holds of a treated record, by cases
 --   Headed, treat-heads                  a steady record stays first
 --   Wraps, wraps                         the parts of a Call that wraps an Object
 --   treat-expression                     an expression gives way to an expression
 use Prim.Native.Nat.{ℕ}
-use mathlib.Core.Path.{_≡_, refl, sym, ap, subst, _∙_}
-use mathlib.Core.Bool.{Bool, true, false, cond, not, _&&_, _||_}
+use mathlib.Core.Path.{_≡_, refl, sym, subst}
+use mathlib.Core.Bool.{Bool, true, false, not, _||_}
 use mathlib.Core.List.{List, [], _∷_}
-use mathlib.Core.Logic.{_⊎_, inl, inr, ⊎-elim}
+use mathlib.Core.Logic.{_⊎_, ⊎-elim}
 use lib.Dec.{eqb}
 use Rattle.std.proofs.shelf.Tests.{and-parts, both-ways, or-cases, eqb-true}
-use Rattle.rules.specs.Tree.{Head, Chain, isEnd, below, after, first-is, first-flagged, first-symbol, alone, append}
+use Rattle.rules.specs.Tree.{Head, Chain, _is_, isEnd, below, after, first-is, first-flagged, first-symbol, alone, append}
 use Rattle.rules.specs.Tree.Chain.{end, link}
-use Rattle.rules.specs.Kinds.{member, expression, empty-statement, block, plain-statement, fn-declaration, class-declaration, var-declaration, declarator, function, class-body, identifier, function-expression, plain-expression, object, assignment, name-pattern, compound-pattern, default-pattern, expression-pattern}
-use Rattle.rules.specs.Removal.{By, Place, Left, Verdict, place-inside, entered, only-identifiers, returns-object, wraps-object, wrapped-object, verdict, done, treated, treat, unchanged}
+use Rattle.rules.specs.Kinds.{member, expression, module-root, script-root, empty-statement, block, plain-statement, fn-declaration, class-declaration, var-declaration, declarator, function, class-body, identifier, function-expression, plain-expression, object, assignment, name-pattern, compound-pattern, default-pattern, expression-pattern}
+use Rattle.rules.specs.Removal.{By, Place, Left, Verdict, place-inside, entered, has-list, only-identifiers, wraps-object, wrapped-object, verdict, done, treated, treat, unchanged}
 use Rattle.rules.specs.Removal.Verdict.{stays, sweeps, empties, unlinks, restates, yields, unwraps}
-use Rattle.laws.proofs.Verdicts.{Means, means, Emptied, emptying-kind}
+use Rattle.laws.proofs.Verdicts.{Means, means, emptying-kind}
 
 -- the kind of a chain's first record
 abbrev pub first-kind : Chain → ℕ
@@ -67,6 +68,16 @@ each-member P k (m ∷ ks) all g = ⊎-elim (λ e. subst P (sym (eqb-true k m e)
 -- a record with another kind
 abbrev pub with-kind : Head → ℕ → Head
 with-kind h k = record { number = h .number; kind = k; flags = h .flags; symbol = h .symbol; mark = h .mark }
+
+-- a fact on a record that has a list, by its kind
+pub by-list : (P : Head → Type 0) (h : Head) → has-list h ≡ true → P (with-kind h module-root) → P (with-kind h script-root) → P (with-kind h block) → P h
+by-list P h g x y z = each-member (λ (k : ℕ). P (with-kind h k)) (h .kind) (module-root ∷ script-root ∷ block ∷ []) (x, (y, (z, tt))) (listed (h is module-root) (h is script-root) (h is block) g)
+  where
+    listed : (a b c : Bool) → (a || (b || c)) ≡ true → (a || (b || (c || false))) ≡ true
+    listed true b c g = refl
+    listed false true c g = refl
+    listed false false true g = refl
+    listed false false false g = g
 
 pub treated-both : (b : Bool) (by : By) (p : Place) (h : Head) (found : Chain) (inner : Left) (P : Left → Type 0)
   → (b ≡ true → P (done (verdict by p h found (inner .chain)) h inner)) → (b ≡ false → P (unchanged (link h found end))) → P (treated b by p h found inner)

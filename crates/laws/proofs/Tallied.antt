@@ -5,7 +5,7 @@ use Prim.Native.Nat.{ℕ}
 use mathlib.Core.Path.{_≡_, refl, sym, ap, subst, _∙_}
 use mathlib.Core.Bool.{Bool, true, false, _&&_, _||_}
 use mathlib.Core.List.{List, [], _∷_, _++_}
-use mathlib.Core.Logic.{_⊎_, inl, inr, ⊎-elim}
+use mathlib.Core.Logic.{inl, inr, ⊎-elim}
 use Rattle.std.proofs.shelf.Tests.{both-ways}
 use Rattle.rules.specs.Tree.{Head, Chain, Name, if_then_else_, _is_}
 use Rattle.rules.specs.Tree.Chain.{end, link}
@@ -14,8 +14,8 @@ use Rattle.rules.specs.Names.{namesOf, distinct, bound, declared-below, exporte
 use Rattle.rules.specs.Counting.{Event, Found, Around, unheld, nothing, reading, writing, readings, marks, named-here, calls-eval, own, opens, leave, inside, count}
 use Rattle.rules.specs.Law.{In, Reference}
 use Rattle.laws.proofs.Listed.{in-append, in-left, in-right}
-use Rattle.laws.proofs.Exported.{Exports, in-exported, exported-in}
-use Rattle.laws.proofs.Refers.{Here, Refers}
+use Rattle.laws.proofs.Exported.{in-exported, exported-in}
+use Rattle.laws.proofs.Refers.{Refers}
 
 -- what a record refers to does not hang on its children
 own-cases : (x y z t : Bool) (r w n : Found) (b d : Bool)

@@ -7,20 +7,18 @@ use Prim.Native.Nat.{ℕ}
 use mathlib.Core.Path.{_≡_, refl, sym, ap, subst, _∙_}
 use mathlib.Core.Bool.{Bool, true, false, _&&_, _||_}
 use mathlib.Core.List.{List, [], _∷_, _++_}
-use mathlib.Core.Logic.{_⊎_, inl, inr, ⊎-elim}
-use lib.Dec.{eqb}
+use mathlib.Core.Logic.{⊎-elim}
 use Rattle.std.proofs.shelf.Tests.{cond-both, and-parts, both-ways, or-cases, or-parts, or-left, or-right, eqb-true}
-use Rattle.rules.specs.Tree.{Head, Chain, Name, if_then_else_, _is_, isEnd, append}
+use Rattle.rules.specs.Tree.{Head, Chain, if_then_else_, _is_, isEnd, append}
 use Rattle.rules.specs.Tree.Chain.{end, link}
-use Rattle.rules.specs.Kinds.{member, export-declaration, empty-statement, block, fn-declaration, class-declaration, var-declaration, declarator, function, identifier, export-name, arrow, call-expression, name-pattern, property-name}
+use Rattle.rules.specs.Kinds.{export-declaration, empty-statement, block, fn-declaration, class-declaration, var-declaration, declarator, function, identifier, export-name, arrow, call-expression, name-pattern, property-name}
 use Rattle.rules.specs.Names.{Under, under, under-nothing, declares, declaring, declared-below, binds, nests, keep, bound, exported, namesOf, distinct}
-use Rattle.rules.specs.Counting.{Event, Found, Around, nothing, _followed-by_, reading, writing, readings, marks, named-here, calls-eval, opens, inside, count}
-use Rattle.rules.specs.Removal.{By, Place, Left, Verdict, place-inside, entered, has-list, swept, both, verdict, done, treated, treat}
+use Rattle.rules.specs.Counting.{Found, Around, nothing, _followed-by_, reading, writing, readings, marks, named-here, calls-eval, opens, inside, count}
+use Rattle.rules.specs.Removal.{By, Place, Left, Verdict, place-inside, entered, has-list, swept, verdict, done, treated, treat}
 use Rattle.rules.specs.Removal.Verdict.{stays, sweeps, empties, unlinks, restates, yields, unwraps}
 use Rattle.laws.proofs.Verdicts.{Means, means}
-use Rattle.laws.proofs.SoundTrees.{Kinds, Sound, each-member, with-kind, treated-both}
+use Rattle.laws.proofs.SoundTrees.{Kinds, Sound, each-member, with-kind, by-list, treated-both}
 use Rattle.laws.proofs.SoundKept.{treat-sound}
-use Rattle.laws.proofs.Runs.{by-list}
 
 -- what is found at a record, by what its children export, give, declare and bind, whether its callee is `eval`, and the rest
 abbrev found-at : Around → Head → (exports : List Head) → (inner : Found) → (declared bound : List Head) → (evals : Bool) → (rest : Found) → Found

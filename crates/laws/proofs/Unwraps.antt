@@ -2,21 +2,21 @@
 -- since none of these puts a name on a path or changes the innermost function or class.
 use Prim.Native.Nat.{ℕ}
 use mathlib.Core.Path.{_≡_, refl, sym, subst, _∙_}
-use mathlib.Core.Bool.{Bool, true, false, _&&_, _||_}
+use mathlib.Core.Bool.{Bool, true, false}
 use mathlib.Core.List.{List, [], _∷_}
-use mathlib.Core.Logic.{_⊎_, inl, inr, ⊎-elim}
+use mathlib.Core.Logic.{inl, inr, ⊎-elim}
 use lib.Dec.{eqb}
-use Rattle.std.proofs.shelf.Tests.{cond-both, and-parts, both-ways, eqb-true, eqb-false}
+use Rattle.std.proofs.shelf.Tests.{and-parts, both-ways, eqb-true, eqb-false}
 use Rattle.rules.specs.Tree.{Head, Chain, Name, if_then_else_, _is_, isEnd, below, alone}
 use Rattle.rules.specs.Tree.Chain.{end, link}
 use Rattle.rules.specs.Kinds.{export-declaration, fn-declaration, class-declaration, block, plain-statement, function, identifier, function-expression, object, call-expression}
-use Rattle.rules.specs.Counting.{Event, Around, opens, holders, own, inside}
+use Rattle.rules.specs.Counting.{Event, Around, holders, own, inside}
 use Rattle.rules.specs.Removal.{only-identifiers, wrapped-object}
 use Rattle.rules.specs.Law.{In}
 use Rattle.laws.proofs.Verdicts.{Unwrapped}
-use Rattle.laws.proofs.SoundTrees.{first-kind, Sound, Wraps, wraps}
+use Rattle.laws.proofs.SoundTrees.{first-kind, Sound, wraps}
 use Rattle.laws.proofs.SoundKept.{sound-below}
-use Rattle.laws.proofs.Refers.{Here, Refers}
+use Rattle.laws.proofs.Refers.{Refers}
 
 -- a reference is counted alike in both surroundings
 pub record Alike (a o : Around) : Type 0 where

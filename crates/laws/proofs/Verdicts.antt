@@ -5,13 +5,13 @@
 --   Means, means                                                  the verdict of a record tells it
 use Prim.Native.Nat.{ℕ}
 use mathlib.Core.Path.{_≡_, refl, sym, subst}
-use mathlib.Core.Bool.{Bool, true, false, cond, not, _&&_, _||_}
+use mathlib.Core.Bool.{Bool, true, false, not}
 use mathlib.Core.List.{List, [], _∷_}
 use lib.Dec.{eqb}
 use Rattle.std.proofs.shelf.Tests.{cond-both, and-parts, not-true, eqb-true}
-use Rattle.rules.specs.Tree.{Head, Chain, Name, _is_, flagged, nameOf, isEnd, below, after, first-is, first-name}
+use Rattle.rules.specs.Tree.{Head, Chain, Name, _is_, flagged, nameOf, isEnd, after, first-is, first-name}
 use Rattle.rules.specs.Kinds.{import-item, specifier, fn-declaration, class-declaration, var-declaration, declarator, call-expression, assignment, name-pattern, expression}
-use Rattle.rules.specs.Removal.{By, Place, Verdict, permitted, retained, unused, never-read, can-drop-binding, can-drop-assignment-to, first-acts, has-list, keeps-class, name-goes, all-go, wraps-object, fn-goes, class-goes, declarator-goes, specifier-goes, import-emptied, var-emptied, var-restates, assignment-yields, call-unwraps, verdict}
+use Rattle.rules.specs.Removal.{By, Place, Verdict, permitted, retained, unused, never-read, can-drop-binding, first-acts, has-list, name-goes, all-go, wraps-object, fn-goes, class-goes, declarator-goes, specifier-goes, import-emptied, var-emptied, var-restates, assignment-yields, call-unwraps, verdict}
 use Rattle.rules.specs.Removal.Verdict.{stays, sweeps, empties, unlinks, restates, yields, unwraps}
 
 -- each name of a list is unused
