@@ -1,2 +1,4 @@
 pub mod KeepsTree
 pub mod OrderLaw
+pub mod ReferencesLaw
+pub mod RepeatsLaw

@@ -1,5 +1,16 @@
+ghost use Rattle.rules.specs.Law.{Law-about-runs};
 ghost use Rattle.laws.specs.KeepsTree.{Keeps-formed, Keeps-apart, Keeps-level, Keeps-numbers, Keeps-root, Checked-again, Fewer-reached, Lost-reached};
-ghost use Rattle.laws.specs.OrderLaw.{Order-law};
+ghost use Rattle.laws.specs.RepeatsLaw.{Bound-never-ends};
+
+// The law about runs, whole: for every setting, retain list, lawful judge, list of calls, tree and tables, the order of
+// top-level items does not matter, references left to taken names stand inside their closed ring, and completed repeats
+// are short and leave no removable function unused. No repeat is ended by the bound on passes that its definition has.
+pub fn law_about_runs() -> u8
+    ensures law { λ _. ⌜ Law-about-runs ⌝ }
+    ensures bound { λ _. ⌜ Bound-never-ends ⌝ }
+{
+    0
+}
 
 // What a pass leaves of a tree that the check took is taken by the check, and each removal leaves fewer records.
 pub fn what_a_pass_leaves_is_checked_again() -> u8
@@ -11,13 +22,6 @@ pub fn what_a_pass_leaves_is_checked_again() -> u8
     ensures again { λ _. ⌜ Checked-again ⌝ }
     ensures fewer { λ _. ⌜ Fewer-reached ⌝ }
     ensures lost { λ _. ⌜ Lost-reached ⌝ }
-{
-    0
-}
-
-// Trees that differ only in the order of top-level items go alike through every list of calls, and lose the same.
-pub fn order_of_items_does_not_matter() -> u8
-    ensures { λ _. ⌜ Order-law ⌝ }
 {
     0
 }
