@@ -3,7 +3,7 @@
 --
 --   Here, Refers                    an event is a reference of the record itself; of a chain
 --   with-role                       the same surroundings with another role of a Name pattern
---   refers-append, refers-swept, refers-after, refers-below, refers-moved      what moves
+--   refers-append, refers-swept, refers-after, refers-moved      what moves
 --   refers-joined                   the values of a Var's Declarators
 use mathlib.Core.Path.{_≡_, refl, sym, subst}
 use mathlib.Core.Bool.{true, false}
