@@ -1,0 +1,4 @@
+pub mod Cuts
+pub mod Reading
+pub mod Names
+pub mod Passing

@@ -1,0 +1,61 @@
+-- Passing from line to line. A reader that has no byte left has no line left; one that has bytes has a first line, and the
+-- lines of what stands behind its line feed.
+use Prim.Native.Nat.{ℕ, _+_}
+use mathlib.Core.Path.{_≡_, refl, sym, ap, _∙_}
+use mathlib.Core.Bool.{Bool, false}
+use mathlib.Core.Logic.{inl, inr}
+use mathlib.Core.List.{List, [], _∷_}
+use lib.ListN.{length}
+use Rattle.std.proofs.shelf.Lists.{nil-from-length}
+use Rattle.std.specs.declared.result.Result.{Result}
+use Rattle.std.specs.declared.result.Result.the-variants.{Ok, Err}
+use Rattle.text.specs.declared.fault.Keyword.{Keyword}
+use Rattle.text.specs.declared.fault.Problem.{Problem}
+use Rattle.text.specs.declared.fault.Problem.the-variants.{EndMissing}
+use Rattle.text.specs.declared.fault.TextFault.{TextFault}
+use Rattle.text.specs.Gives.{Gives, Finds}
+use Rattle.text.specs.Split.{split, andThen}
+use Rattle.text.specs.Reader.{Left, left, pass-over, pass-over-from, at, rest-of, first-line, due-line, read-line, numbered}
+
+-- no bytes, no lines
+pub no-lines : (bytes : List ℕ) → length bytes ≡ 0 → split 10 bytes ≡ []
+no-lines bytes none = ap (split 10) (nil-from-length bytes none)
+
+-- where no line is left, none is passed over
+pub passed-at-end : (between : Bool) (bytes : List ℕ) (number : ℕ) → length bytes ≡ 0 → left bytes number ≡ pass-over-from between (left bytes number)
+passed-at-end between bytes number none =
+  let here : (lines : List (List ℕ)) → lines ≡ [] → record { lines = lines; number = number } ≡ pass-over between lines number =
+    λ lines is. rw is in
+  here (split 10 bytes) (no-lines bytes none)
+
+-- the text ends where a line is due
+pub due-at-end : (due : Keyword) (here : Left) (bytes : List ℕ) (number : ℕ) → left bytes number ≡ pass-over-from false here → length bytes ≡ 0
+  → due-line due here ≡ Err (record { line = number; problem = EndMissing })
+due-at-end due here bytes number passed none =
+  ap (λ from. first-line due (from .lines) (from .number)) (sym passed) ∙ ap (λ lines. first-line due lines number) (no-lines bytes none)
+
+-- a line is there, and what stands behind its keyword is handed on
+pub due-there : (due : Keyword) (here : Left) (bytes line after : List ℕ) (number : ℕ) (r : Result (List ℕ) Problem)
+  → left bytes number ≡ pass-over-from false here → split 10 bytes ≡ line ∷ split 10 after → rest-of due line ≡ r
+  → due-line due here ≡ at (left after (number + 1)) r
+due-there due here bytes line after number r passed opened is =
+  ap (λ from. first-line due (from .lines) (from .number)) (sym passed)
+  ∙ ap (λ lines. first-line due lines number) opened
+  ∙ ap (at (left after (number + 1))) is
+
+-- the line that is due is not there
+pub line-missing : {A : Type 0} (due : Keyword) (read : List ℕ → Result A Problem) (here : Left) (fault : TextFault)
+  → due-line due here ≡ Err fault → read-line due read here ≡ Err fault
+unfolding read-line
+line-missing due read here fault is = ap (λ r. andThen r (λ line. at (line .1) (read (line .0)))) is
+
+-- the line is there, and what stands behind its keyword is read
+pub line-read : {A V : Type 0} (due : Keyword) (read : List ℕ → Result A Problem) (view : V → A) (here after : Left) (rest : List ℕ) (r : Result V Problem)
+  → due-line due here ≡ Ok (rest, after) → Gives (read rest) view r
+  → Finds (read-line due read here) (λ v. (view v, after)) (numbered (after .number) r)
+unfolding read-line
+line-read due read view here after rest (Ok value) is gives =
+  ap (λ r. andThen r (λ line. at (line .1) (read (line .0)))) is ∙ ap (at after) gives
+line-read due read view here after rest (Err problem) is (inl memory) = inl memory
+line-read due read view here after rest (Err problem) is (inr gives) =
+  inr (ap (λ r. andThen r (λ line. at (line .1) (read (line .0)))) is ∙ ap (at after) gives)
