@@ -1,12 +1,13 @@
 -- Passing from line to line. A reader that has no byte left has no line left; one that has bytes has a first line, and the
 -- lines of what stands behind its line feed.
-use Prim.Native.Nat.{ℕ, _+_}
+use Prim.Native.Nat.{ℕ, _+_, _<_}
 use mathlib.Core.Path.{_≡_, refl, sym, ap, _∙_}
-use mathlib.Core.Bool.{Bool, false}
+use mathlib.Core.Bool.{Bool, true, false}
 use mathlib.Core.Logic.{inl, inr}
 use mathlib.Core.List.{List, [], _∷_}
 use lib.ListN.{length}
 use Rattle.std.proofs.shelf.Lists.{nil-from-length}
+use Rattle.std.specs.declared.option.Option.the-variants.{Some, None}
 use Rattle.std.specs.declared.result.Result.{Result}
 use Rattle.std.specs.declared.result.Result.the-variants.{Ok, Err}
 use Rattle.text.specs.declared.fault.Keyword.{Keyword}
@@ -14,8 +15,9 @@ use Rattle.text.specs.declared.fault.Problem.{Problem}
 use Rattle.text.specs.declared.fault.Problem.the-variants.{EndMissing}
 use Rattle.text.specs.declared.fault.TextFault.{TextFault}
 use Rattle.text.specs.Gives.{Gives, Finds}
-use Rattle.text.specs.Split.{split, andThen}
-use Rattle.text.specs.Reader.{Left, left, pass-over, pass-over-from, at, rest-of, first-line, due-line, read-line, numbered}
+use Rattle.text.specs.Split.{split, before, behind, andThen}
+use Rattle.text.proofs.Cuts.{split-at-first}
+use Rattle.text.specs.Reader.{Left, left, pass-over, pass-over-from, at, rest-of, first-line, due-line, read-line, numbered, said, said-from, next-said}
 
 -- no bytes, no lines
 pub no-lines : (bytes : List ℕ) → length bytes ≡ 0 → split 10 bytes ≡ []
@@ -59,3 +61,18 @@ line-read due read view here after rest (Ok value) is gives =
 line-read due read view here after rest (Err problem) is (inl memory) = inl memory
 line-read due read view here after rest (Err problem) is (inr gives) =
   inr (ap (λ r. andThen r (λ line. at (line .1) (read (line .0)))) is ∙ ap (at after) gives)
+
+-- no case is left
+pub no-case : (here : Left) (bytes : List ℕ) (number : ℕ) → left bytes number ≡ pass-over-from true here → length bytes ≡ 0 → next-said here ≡ Ok None
+no-case here bytes number passed none =
+  ap (λ from. said-from (from .lines) (from .number)) (sym passed) ∙ ap (λ lines. said-from lines number) (no-lines bytes none)
+
+-- a case is left
+pub case-there : (here : Left) (bytes : List ℕ) (number : ℕ) → left bytes number ≡ pass-over-from true here → 0 < length bytes
+  → next-said here ≡ andThen (said (left bytes number)) (λ found. Ok (Some found))
+case-there here bytes number passed some =
+  let opens : (lines : List (List ℕ)) (first : List ℕ) (rest : List (List ℕ)) → lines ≡ first ∷ rest
+    → said-from lines number ≡ andThen (said (record { lines = lines; number = number })) (λ found. Ok (Some found)) =
+    λ lines first rest is. rw is in
+  ap (λ from. said-from (from .lines) (from .number)) (sym passed)
+  ∙ opens (split 10 bytes) (before 10 bytes) (split 10 (behind 10 bytes)) (split-at-first 10 bytes some)

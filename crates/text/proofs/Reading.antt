@@ -24,16 +24,16 @@ number-begins [] some = absurd (some refl)
 number-begins (b ∷ bs) some = refl
 
 -- one digit further
-pub number-goes-on : (word : List ℕ) (i n m : ℕ) → i < length word → with-digit n (getD word i 0) ≡ Ok m
+pub number-goes-on : (word : List ℕ) (i n m : ℕ) → i < length word → Ok m ≡ with-digit n (getD word i 0)
   → number-from n (drop i word) ≡ number-from m (drop (i + 1) word)
 number-goes-on word i n m within read =
-  ap (number-from n) (drop-more word i 0 within) ∙ ap (λ r. andThen r (λ k. number-from k (drop (i + 1) word))) read
+  ap (number-from n) (drop-more word i 0 within) ∙ ap (λ r. andThen r (λ k. number-from k (drop (i + 1) word))) (sym read)
 
 -- a byte that is no digit, or too much
-pub number-stops : (word : List ℕ) (i n : ℕ) (problem : Problem) → i < length word → with-digit n (getD word i 0) ≡ Err problem
+pub number-stops : (word : List ℕ) (i n : ℕ) (problem : Problem) → i < length word → Err problem ≡ with-digit n (getD word i 0)
   → number-from n (drop i word) ≡ Err problem
 number-stops word i n problem within read =
-  ap (number-from n) (drop-more word i 0 within) ∙ ap (λ r. andThen r (λ k. number-from k (drop (i + 1) word))) read
+  ap (number-from n) (drop-more word i 0 within) ∙ ap (λ r. andThen r (λ k. number-from k (drop (i + 1) word))) (sym read)
 
 -- no digit is left
 pub number-ends : (word : List ℕ) (i n : ℕ) → length word ≤ i → number-from n (drop i word) ≡ Ok n
@@ -78,24 +78,24 @@ module _ {A E : Type 0} (read : List ℕ → Result A E) where
 
   -- a word is read
   pub sofar-more : (line rest after word : List ℕ) (values : List A) (value : A) → (length word ≡ 0 → ⊥) → split 32 rest ≡ word ∷ split 32 after
-    → read word ≡ Ok value → Sofar line values rest → Sofar line (values ++ value ∷ []) after
+    → Ok value ≡ read word → Sofar line values rest → Sofar line (values ++ value ∷ []) after
   sofar-more line rest after word values value some cut is sofar =
     let opened : words rest ≡ word ∷ words after = words-open rest word after some cut in
     record { gives =
       prefixed-more values value (each read (words after))
-      ∙ ap (λ r. prefixed values (andThen r (λ a. andThen (each read (words after)) (λ more. Ok (a ∷ more))))) (sym is)
+      ∙ ap (λ r. prefixed values (andThen r (λ a. andThen (each read (words after)) (λ more. Ok (a ∷ more))))) is
       ∙ ap (λ ws. prefixed values (each read ws)) (sym opened)
       ∙ sofar .gives }
 
   -- a word is refused
   pub sofar-stops : (line rest after word : List ℕ) (values : List A) (e : E) → (length word ≡ 0 → ⊥) → split 32 rest ≡ word ∷ split 32 after
-    → read word ≡ Err e → Sofar line values rest → each read (words line) ≡ Err e
+    → Err e ≡ read word → Sofar line values rest → each read (words line) ≡ Err e
   unfolding prefixed
   sofar-stops line rest after word values e some cut is sofar =
     let opened : words rest ≡ word ∷ words after = words-open rest word after some cut in
     sym (sofar .gives)
     ∙ ap (λ ws. prefixed values (each read ws)) opened
-    ∙ ap (λ r. prefixed values (andThen r (λ a. andThen (each read (words after)) (λ more. Ok (a ∷ more))))) is
+    ∙ ap (λ r. prefixed values (andThen r (λ a. andThen (each read (words after)) (λ more. Ok (a ∷ more))))) (sym is)
 
   -- no word is left
   pub sofar-all : (line rest : List ℕ) (values : List A) → length rest ≡ 0 → Sofar line values rest → each read (words line) ≡ Ok values

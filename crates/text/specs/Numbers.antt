@@ -3,12 +3,15 @@
 --   digit, with-digit      a byte that writes a digit; a number with one more digit behind it
 --   number                 what a word writes
 --   numbers                what a line of words writes
-use Prim.Native.Nat.{ℕ, _+_, _-_, _*_, _^_}
-use mathlib.Core.List.{List, [], _∷_}
+--   written, Read-back     numbers as they are written; reading gives them back
+use Prim.Native.Nat.{ℕ, _+_, _-_, _*_, _^_, _<_}
+use mathlib.Core.Path.{_≡_}
+use mathlib.Core.List.{List, [], _∷_, _++_}
 use mathlib.Core.Bool.{Bool, cond, _&&_}
 use lib.Dec.{leb, ltb}
 use Rattle.std.specs.declared.result.Result.{Result}
 use Rattle.std.specs.declared.result.Result.the-variants.{Ok, Err}
+use Rattle.std.specs.Written.{decimal}
 use Rattle.text.specs.declared.fault.Problem.{Problem}
 use Rattle.text.specs.declared.fault.Problem.the-variants.{NotANumber, TooLarge}
 use Rattle.text.specs.Split.{andThen, words, each}
@@ -35,3 +38,18 @@ number (b ∷ bs) = number-from 0 (b ∷ bs)
 -- the numbers that a line writes
 abbrev pub numbers : List ℕ → Result (List ℕ) Problem
 numbers line = each number (words line)
+
+-- numbers written in decimal, with a space between two
+abbrev pub written : List ℕ → List ℕ
+written [] = []
+written (n ∷ []) = decimal n
+written (n ∷ m ∷ ns) = decimal n ++ 32 ∷ written (m ∷ ns)
+
+-- every number is below 2^32
+abbrev pub All-fit : List ℕ → Type 0
+All-fit [] = Unit {0}
+All-fit (n ∷ ns) = (n < 2 ^ 32) × All-fit ns
+
+-- numbers that are written are read as they were
+abbrev pub Read-back : Type 0
+Read-back = (ns : List ℕ) → All-fit ns → numbers (written ns) ≡ Ok ns

@@ -9,7 +9,7 @@ ghost use Rattle.std.specs.shelf.Text.{sameBytes};
 ghost use Rattle.text.specs.declared.fault.Problem.{Problem};
 ghost use Rattle.text.specs.Gives.{Gives};
 ghost use Rattle.text.specs.Split.{before, behind, split, words, each};
-ghost use Rattle.text.specs.Numbers.{with-digit, number, numbers};
+ghost use Rattle.text.specs.Numbers.{with-digit, number, numbers, Read-back};
 use crate::fault::Problem;
 use crate::fault::ProblemFromRefused;
 use std::alloc::Global;
@@ -94,7 +94,8 @@ pub fn read_words<T: FromWord + Drop>(heap: Global, line: &[u8]) -> Result<Vec<T
 
 /// Reads the decimal numbers of a line, apart by spaces.
 pub fn read_numbers(heap: Global, line: &[u8]) -> Result<Vec<u32>, Problem>
-    ensures { λ r. ⌜ Gives (numbers (now (line .entry))) vec-items r ⌝ }
+    ensures gives { λ r. ⌜ Gives (numbers (now (line .entry))) vec-items r ⌝ }
+    ensures back { λ _. ⌜ Read-back ⌝ }
 {
     read_words(heap, line)
 }

@@ -5,14 +5,15 @@ ghost use Rattle.std.specs.declared.option.Option.the-variants.{Some, None};
 ghost use Rattle.std.specs.declared.result.Result.the-variants.{Ok, Err};
 ghost use Rattle.std.specs.Of.String.{string-bytes};
 ghost use Rattle.std.specs.Of.Vec.{vec-items};
+ghost use Rattle.std.specs.Options.{mapped};
 ghost use Rattle.std.specs.Results.{Cases as Either};
 ghost use Rattle.text.specs.declared.fault.Keyword.the-variants.{Case as CaseLine, Set, Retain, Tables, Tree, Calls, End};
-ghost use Rattle.text.specs.Gives.{Finds};
+ghost use Rattle.text.specs.Gives.{Finds, Gives};
 ghost use Rattle.text.specs.Keywords.{known};
 ghost use Rattle.text.specs.Numbers.{numbers};
 ghost use Rattle.text.specs.Lines.{name-of, settings-of, lengths-of, calls-of};
-ghost use Rattle.text.specs.Place.{left-of};
-ghost use Rattle.text.specs.Reader.{left, skipped, pass-over-from, rest-of, numbered, due-line, read-line, nothing-of};
+ghost use Rattle.text.specs.Place.{left-of, said-of};
+ghost use Rattle.text.specs.Reader.{left, skipped, pass-over-from, rest-of, numbered, due-line, read-line, nothing-of, said, next-said};
 use super::Cases;
 use crate::case::Case;
 use crate::case::Call;
@@ -70,6 +71,13 @@ fn behind_keyword(due: Keyword, line: &[u8]) -> Result<&[u8], Problem>
     } else {
         Err(Problem::UnknownLine)
     }
+}
+
+// Nothing stands behind the keyword.
+fn read_nothing(rest: &[u8]) -> Result<(), Problem>
+    ensures { λ r. ⌜ Gives (nothing-of (now (rest .entry))) (λ v. v) r ⌝ }
+{
+    if rest.is_empty() { Ok(()) } else { Err(Problem::WrongCount) }
 }
 
 impl<'a> Cases<'a> {
@@ -159,5 +167,38 @@ impl<'a> Cases<'a> {
     {
         let rest = self.due(Keyword::Calls)?;
         self.here(read_words(heap, rest))
+    }
+
+    // The end of a case.
+    fn finish(&mut self) -> Result<(), TextFault>
+        ensures { λ r. ⌜ Finds (read-line End nothing-of (left-of (now (self .entry)))) (λ v. (v, left-of (now (self .exit)))) r ⌝ }
+    {
+        let rest = self.due(Keyword::End)?;
+        self.here(read_nothing(rest))
+    }
+
+    // The case that begins with the next line.
+    fn read_case(&mut self, heap: Global) -> Result<Case, TextFault>
+        ensures { λ r. ⌜ Finds (said (left-of (now (self .entry)))) (λ v. (said-of v, left-of (now (self .exit)))) r ⌝ }
+    {
+        let name = self.name(heap)?;
+        let settings = self.settings(heap)?;
+        let retain = self.numbers(heap, Keyword::Retain)?;
+        let tables = self.tables(heap)?;
+        let tree = self.numbers(heap, Keyword::Tree)?;
+        let calls = self.calls(heap)?;
+        self.finish()?;
+        Ok(Case { name, settings, retain, tables, tree, calls })
+    }
+
+    /// Reads the next case, if there is one; or says what is wrong with the first line that is not as it should be.
+    pub fn next_case(&mut self, heap: Global) -> Result<Option<Case>, TextFault>
+        ensures { λ r. ⌜ Finds (next-said (left-of (now (self .entry)))) (mapped (λ v. (said-of v, left-of (now (self .exit))))) r ⌝ }
+    {
+        self.pass_over(true);
+        if self.rest.is_empty() {
+            return Ok(None);
+        }
+        Ok(Some(self.read_case(heap)?))
     }
 }

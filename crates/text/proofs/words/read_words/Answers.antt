@@ -1,6 +1,5 @@
 use Prim.Native.Nat.{_<_}
 use native.Mathlib.Omega.{arith}
-use mathlib.Core.Path.{sym, _∙_}
 use mathlib.Core.Logic.{inr}
 use lib.ListN.{length}
 use borrow.Author.Tests.{true-eqb, false-eqb}
@@ -21,15 +20,17 @@ returns-in-Break-from-word g c =
     (c .from-residual .result) (c .in-Break-from-word .field-0 .0) (c .from-residual .ensures .1)
     (inr (sofar-stops (g .T·FromWord .meaning) (c .args .line .now) (c .loop-rest .rest .now) (c .cut .result .1 .now) (c .cut .result .0 .now)
       (vec-items (c .loop-rest .read)) (c .in-Break-from-word .field-0 .0)
-      (false-eqb _ 0 (c .if-not-is-empty .ensures tt)) (c .cut .ensures .splits some)
-      (sym (c .from-word .ensures) ∙ c .in-Break-from-word .was tt) (c .loop-rest .inv)))
+      (false-eqb (length (c .cut .result .0 .now)) 0 (c .if-not-is-empty .ensures tt)) (c .cut .ensures .splits some)
+      (c .in-Break-from-word .ensures tt) (c .loop-rest .inv)))
 
 pub loop-rest-again-in-Continue-push : need.loop-rest-again-in-Continue-push
 loop-rest-again-in-Continue-push g c =
   let some : 0 < length (c .loop-rest .rest .now) = omega (arith, false-eqb _ 0 (c .loop-rest-test .ensures tt)) in
   rw (c .in-Continue-push .ensures tt .items)
-  (sofar-more (g .T·FromWord .meaning) (c .args .line .now) (c .loop-rest .rest .now) (c .cut .result .1 .now) (c .cut .result .0 .now) _ _
-    (false-eqb _ 0 (c .if-not-is-empty .ensures tt)) (c .cut .ensures .splits some) (sym (c .in-Continue-from-word .ensures tt)) (c .loop-rest .inv))
+  (sofar-more (g .T·FromWord .meaning) (c .args .line .now) (c .loop-rest .rest .now) (c .cut .result .1 .now) (c .cut .result .0 .now)
+    (vec-items (c .loop-rest .read)) (c .in-Continue-from-word .field-0)
+    (false-eqb (length (c .cut .result .0 .now)) 0 (c .if-not-is-empty .ensures tt)) (c .cut .ensures .splits some)
+    (c .in-Continue-from-word .ensures tt) (c .loop-rest .inv))
 
 pub returns : need.returns
 returns g c =

@@ -20,4 +20,4 @@ returns c =
   subst (Finds (read-line (c .args .keyword) numbers (left-of (c .args .self .now))) (λ v. (vec-items v, left-of (c .due .last .self))))
     (sym (c .here .ensures))
     (line-read (c .args .keyword) numbers vec-items (left-of (c .args .self .now)) (left-of (c .due .last .self)) (c .in-Continue-rest .rest .now)
-      (c .read-numbers .result) (c .in-Continue-rest .ensures tt) (c .read-numbers .ensures))
+      (c .read-numbers .result) (c .in-Continue-rest .ensures tt) (c .read-numbers .ensures .gives))
