@@ -7,6 +7,8 @@ use mathlib.Core.Logic.{inl, inr}
 use mathlib.Core.List.{List, [], _∷_}
 use lib.ListN.{length}
 use Rattle.std.proofs.shelf.Lists.{nil-from-length}
+use denote.Ref.{RefT}
+use Rattle.std.specs.Results.{Cases}
 use Rattle.std.specs.declared.option.Option.the-variants.{Some, None}
 use Rattle.std.specs.declared.result.Result.{Result}
 use Rattle.std.specs.declared.result.Result.the-variants.{Ok, Err}
@@ -36,14 +38,33 @@ pub due-at-end : (due : Keyword) (here : Left) (bytes : List ℕ) (number : ℕ)
 due-at-end due here bytes number passed none =
   ap (λ from. first-line due (from .lines) (from .number)) (sym passed) ∙ ap (λ lines. first-line due lines number) (no-lines bytes none)
 
--- a line is there, and what stands behind its keyword is handed on
-pub due-there : (due : Keyword) (here : Left) (bytes line after : List ℕ) (number : ℕ) (r : Result (List ℕ) Problem)
+-- a line is there: what stands behind its keyword, or the problem with it
+due-there : (due : Keyword) (here : Left) (bytes line after : List ℕ) (number : ℕ) (r : Result (List ℕ) Problem)
   → left bytes number ≡ pass-over-from false here → split 10 bytes ≡ line ∷ split 10 after → rest-of due line ≡ r
   → due-line due here ≡ at (left after (number + 1)) r
 due-there due here bytes line after number r passed opened is =
   ap (λ from. first-line due (from .lines) (from .number)) (sym passed)
   ∙ ap (λ lines. first-line due lines number) opened
   ∙ ap (at (left after (number + 1))) is
+
+-- what is lent of a line, or the problem with it
+abbrev pub Lent : Result (List ℕ) Problem → Result (RefT (List ℕ)) Problem → Type 0
+Lent said r = Cases r (λ rest. said ≡ Ok (rest .now)) (λ problem. said ≡ Err problem)
+
+-- the same with the line's number, and what is left then
+abbrev pub Lent-at : Result (List ℕ × Left) TextFault → Left → Result (RefT (List ℕ)) TextFault → Type 0
+Lent-at said after r = Cases r (λ rest. said ≡ Ok (rest .now, after)) (λ fault. said ≡ Err fault)
+
+due-lent : (due : Keyword) (here : Left) (bytes line after : List ℕ) (number : ℕ) (r : Result (RefT (List ℕ)) Problem)
+  → left bytes number ≡ pass-over-from false here → split 10 bytes ≡ line ∷ split 10 after → Lent (rest-of due line) r
+  → Lent-at (due-line due here) (left after (number + 1)) (numbered (number + 1) r)
+due-lent due here bytes line after number (Ok rest) passed opened lent = due-there due here bytes line after number (Ok (rest .now)) passed opened lent
+due-lent due here bytes line after number (Err problem) passed opened lent = due-there due here bytes line after number (Err problem) passed opened lent
+
+pub due-answers : (due : Keyword) (here : Left) (bytes line after : List ℕ) (number : ℕ) (r : Result (RefT (List ℕ)) Problem) (answer : Result (RefT (List ℕ)) TextFault)
+  → left bytes number ≡ pass-over-from false here → split 10 bytes ≡ line ∷ split 10 after → Lent (rest-of due line) r → answer ≡ numbered (number + 1) r
+  → Lent-at (due-line due here) (left after (number + 1)) answer
+due-answers due here bytes line after number r answer passed opened lent is = rw is (due-lent due here bytes line after number r passed opened lent)
 
 -- the line that is due is not there
 pub line-missing : {A : Type 0} (due : Keyword) (read : List ℕ → Result A Problem) (here : Left) (fault : TextFault)
@@ -52,7 +73,7 @@ unfolding read-line
 line-missing due read here fault is = ap (λ r. andThen r (λ line. at (line .1) (read (line .0)))) is
 
 -- the line is there, and what stands behind its keyword is read
-pub line-read : {A V : Type 0} (due : Keyword) (read : List ℕ → Result A Problem) (view : V → A) (here after : Left) (rest : List ℕ) (r : Result V Problem)
+line-read : {A V : Type 0} (due : Keyword) (read : List ℕ → Result A Problem) (view : V → A) (here after : Left) (rest : List ℕ) (r : Result V Problem)
   → due-line due here ≡ Ok (rest, after) → Gives (read rest) view r
   → Finds (read-line due read here) (λ v. (view v, after)) (numbered (after .number) r)
 unfolding read-line
@@ -61,6 +82,11 @@ line-read due read view here after rest (Ok value) is gives =
 line-read due read view here after rest (Err problem) is (inl memory) = inl memory
 line-read due read view here after rest (Err problem) is (inr gives) =
   inr (ap (λ r. andThen r (λ line. at (line .1) (read (line .0)))) is ∙ ap (at after) gives)
+
+pub line-answers : {A V : Type 0} (due : Keyword) (read : List ℕ → Result A Problem) (view : V → A) (here after : Left) (rest : List ℕ) (r : Result V Problem)
+  (answer : Result V TextFault) → due-line due here ≡ Ok (rest, after) → Gives (read rest) view r → answer ≡ numbered (after .number) r
+  → Finds (read-line due read here) (λ v. (view v, after)) answer
+line-answers due read view here after rest r answer is gives same = rw same (line-read due read view here after rest r is gives)
 
 -- no case is left
 pub no-case : (here : Left) (bytes : List ℕ) (number : ℕ) → left bytes number ≡ pass-over-from true here → length bytes ≡ 0 → next-said here ≡ Ok None

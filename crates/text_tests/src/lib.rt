@@ -46,6 +46,36 @@ mod tests {
         check(cases.next_case(heap)?.is_none())
     }
 
+    // Texts with the line and the problem of their first fault.
+    static FAULTS: [(&str, usize, Problem); 26] = [
+        ("hello", 1, Problem::UnknownLine),
+        ("\n\n# c\n set 1", 4, Problem::UnknownLine),
+        ("case a\n\nset 1 0 0 1", 2, Problem::UnknownLine),
+        ("set 1 0 0 1", 1, Problem::Expected(Keyword::Case)),
+        ("case a\ncase a", 2, Problem::Expected(Keyword::Set)),
+        ("case a\nset 1 0 0 1\ntables 1 1 1", 3, Problem::Expected(Keyword::Retain)),
+        ("case a\nset 1 0 0 1\nretain\nretain", 4, Problem::Expected(Keyword::Tables)),
+        ("case a\nset 1 0 0 1\nretain\ntables 1 1 1\nend", 5, Problem::Expected(Keyword::Tree)),
+        ("case a\nset 1 0 0 1\nretain\ntables 1 1 1\ntree\nend", 6, Problem::Expected(Keyword::Calls)),
+        ("case a\nset 1 0 0 1\nretain\ntables 1 1 1\ntree\ncalls\ncalls", 7, Problem::Expected(Keyword::End)),
+        ("case", 1, Problem::WrongCount),
+        ("case a b", 1, Problem::WrongCount),
+        ("case \u{e9}", 1, Problem::NotText),
+        ("case a\nset 1 0 0", 2, Problem::WrongCount),
+        ("case a\nset 1 0 0 1 1", 2, Problem::WrongCount),
+        ("case a\nset 2 0 0 1", 2, Problem::NotASetting),
+        ("case a\nset 1 0 2 1", 2, Problem::NotASetting),
+        ("case a\nset 1 0 0 x", 2, Problem::NotANumber),
+        ("case a\nset 1 0 0 1\nretain +1", 3, Problem::NotANumber),
+        ("case a\nset 1 0 0 1\nretain 4294967296", 3, Problem::TooLarge),
+        ("case a\nset 1 0 0 1\nretain\ntables 1 1", 4, Problem::WrongCount),
+        ("case a\nset 1 0 0 1\nretain\ntables 1 1 1\ntree 1\t2", 5, Problem::NotANumber),
+        ("case a\nset 1 0 0 1\nretain\ntables 1 1 1\ntree\ncalls walk", 6, Problem::UnknownCall),
+        ("case a\nset 1 0 0 1\nretain\ntables 1 1 1\ntree\ncalls\nend now", 7, Problem::WrongCount),
+        ("case a\nset 1 0 0 1\nretain\ntables 1 1 1\ntree\ncalls", 6, Problem::EndMissing),
+        ("case a\n# c\n", 2, Problem::EndMissing),
+    ];
+
     // The line and problem of the first case of the text.
     fn fault_of(heap: Global, text: &str) -> Option<TextFault> {
         match Cases::new(text.as_bytes()).next_case(heap) {
@@ -56,36 +86,8 @@ mod tests {
 
     #[test]
     fn faults_have_their_lines(rt: LibcRuntime) -> Result<(), Fail> {
-        let table = [
-            ("hello", 1, Problem::UnknownLine),
-            ("\n\n# c\n set 1", 4, Problem::UnknownLine),
-            ("case a\n\nset 1 0 0 1", 2, Problem::UnknownLine),
-            ("set 1 0 0 1", 1, Problem::Expected(Keyword::Case)),
-            ("case a\ncase a", 2, Problem::Expected(Keyword::Set)),
-            ("case a\nset 1 0 0 1\ntables 1 1 1", 3, Problem::Expected(Keyword::Retain)),
-            ("case a\nset 1 0 0 1\nretain\nretain", 4, Problem::Expected(Keyword::Tables)),
-            ("case a\nset 1 0 0 1\nretain\ntables 1 1 1\nend", 5, Problem::Expected(Keyword::Tree)),
-            ("case a\nset 1 0 0 1\nretain\ntables 1 1 1\ntree\nend", 6, Problem::Expected(Keyword::Calls)),
-            ("case a\nset 1 0 0 1\nretain\ntables 1 1 1\ntree\ncalls\ncalls", 7, Problem::Expected(Keyword::End)),
-            ("case", 1, Problem::WrongCount),
-            ("case a b", 1, Problem::WrongCount),
-            ("case \u{e9}", 1, Problem::NotText),
-            ("case a\nset 1 0 0", 2, Problem::WrongCount),
-            ("case a\nset 1 0 0 1 1", 2, Problem::WrongCount),
-            ("case a\nset 2 0 0 1", 2, Problem::NotASetting),
-            ("case a\nset 1 0 2 1", 2, Problem::NotASetting),
-            ("case a\nset 1 0 0 x", 2, Problem::NotANumber),
-            ("case a\nset 1 0 0 1\nretain +1", 3, Problem::NotANumber),
-            ("case a\nset 1 0 0 1\nretain 4294967296", 3, Problem::TooLarge),
-            ("case a\nset 1 0 0 1\nretain\ntables 1 1", 4, Problem::WrongCount),
-            ("case a\nset 1 0 0 1\nretain\ntables 1 1 1\ntree 1\t2", 5, Problem::NotANumber),
-            ("case a\nset 1 0 0 1\nretain\ntables 1 1 1\ntree\ncalls walk", 6, Problem::UnknownCall),
-            ("case a\nset 1 0 0 1\nretain\ntables 1 1 1\ntree\ncalls\nend now", 7, Problem::WrongCount),
-            ("case a\nset 1 0 0 1\nretain\ntables 1 1 1\ntree\ncalls", 6, Problem::EndMissing),
-            ("case a\n# c\n", 2, Problem::EndMissing),
-        ];
-        for (text, line, problem) in table {
-            check_eq(fault_of(rt.alloc(), text), Some(TextFault { line, problem }))?;
+        for (text, line, problem) in &FAULTS {
+            check_eq(fault_of(rt.alloc(), text), Some(TextFault { line: *line, problem: *problem }))?;
         }
         Ok(())
     }

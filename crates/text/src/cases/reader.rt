@@ -102,6 +102,16 @@ impl<'a> Cases<'a> {
         }
     }
 
+    // What was read of the last line, or the problem with that line.
+    fn here<T>(&self, read: Result<T, Problem>) -> Result<T, TextFault>
+        ensures { λ r. ⌜ r ≡ numbered (now (self .entry) .line) read ⌝ }
+    {
+        match read {
+            Ok(value) => Ok(value),
+            Err(problem) => Err(TextFault { line: self.line, problem }),
+        }
+    }
+
     // Steps past the next line that is no comment, and gives what stands behind the keyword that is due.
     fn due(&mut self, keyword: Keyword) -> Result<&'a [u8], TextFault>
         ensures { λ r. ⌜ Either r (λ rest. due-line keyword (left-of (now (self .entry))) ≡ Ok (now rest, left-of (now (self .exit)))) (λ e. due-line keyword (left-of (now (self .entry))) ≡ Err e) ⌝ }
@@ -113,20 +123,7 @@ impl<'a> Cases<'a> {
         let (line, after) = cut(self.rest, LINE_FEED);
         self.rest = after;
         self.line += 1;
-        match behind_keyword(keyword, line) {
-            Ok(rest) => Ok(rest),
-            Err(problem) => Err(TextFault { line: self.line, problem }),
-        }
-    }
-
-    // What was read of the last line, or the problem with that line.
-    fn here<T>(&self, read: Result<T, Problem>) -> Result<T, TextFault>
-        ensures { λ r. ⌜ r ≡ numbered (now (self .entry) .line) read ⌝ }
-    {
-        match read {
-            Ok(value) => Ok(value),
-            Err(problem) => Err(TextFault { line: self.line, problem }),
-        }
+        self.here(behind_keyword(keyword, line))
     }
 
     // The name of a case.

@@ -1,4 +1,3 @@
-use mathlib.Core.Path.{subst, sym}
 use mathlib.Core.Logic.{inr}
 use Rattle.std.specs.Of.String.{string-bytes}
 use Rattle.text.specs.declared.fault.Keyword.the-variants.{Case}
@@ -7,7 +6,7 @@ use Rattle.text.specs.Lines.{name-of}
 use Rattle.text.specs.Place.{left-of}
 use Rattle.text.specs.Reader.{read-line}
 use Rattle.text.proofs.Reading.{handed-on}
-use Rattle.text.proofs.Passing.{line-missing, line-read}
+use Rattle.text.proofs.Passing.{line-missing, line-answers}
 use Rattle.text.proofs.cases.Cases.name.Needs as need
 
 pub returns-in-Break-rest : need.returns-in-Break-rest
@@ -18,7 +17,5 @@ returns-in-Break-rest c =
 
 pub returns : need.returns
 returns c =
-  subst (Finds (read-line Case name-of (left-of (c .args .self .now))) (λ v. (string-bytes v, left-of (c .due .last .self))))
-    (sym (c .here .ensures))
-    (line-read Case name-of string-bytes (left-of (c .args .self .now)) (left-of (c .due .last .self)) (c .in-Continue-rest .rest .now)
-      (c .read-name .result) (c .in-Continue-rest .ensures tt) (c .read-name .ensures))
+  line-answers Case name-of string-bytes (left-of (c .args .self .now)) (left-of (c .due .last .self)) (c .in-Continue-rest .rest .now)
+    (c .read-name .result) (c .here .result) (c .in-Continue-rest .ensures tt) (c .read-name .ensures) (c .here .ensures)

@@ -1,4 +1,3 @@
-use mathlib.Core.Path.{subst, sym}
 use mathlib.Core.Logic.{inr}
 use Rattle.text.specs.declared.fault.Keyword.the-variants.{Tables}
 use Rattle.text.specs.Gives.{Finds}
@@ -6,7 +5,7 @@ use Rattle.text.specs.Lines.{lengths-of}
 use Rattle.text.specs.Place.{left-of}
 use Rattle.text.specs.Reader.{read-line}
 use Rattle.text.proofs.Reading.{handed-on}
-use Rattle.text.proofs.Passing.{line-missing, line-read}
+use Rattle.text.proofs.Passing.{line-missing, line-answers}
 use Rattle.text.proofs.cases.Cases.tables.Needs as need
 
 pub returns-in-Break-rest : need.returns-in-Break-rest
@@ -17,7 +16,5 @@ returns-in-Break-rest c =
 
 pub returns : need.returns
 returns c =
-  subst (Finds (read-line Tables lengths-of (left-of (c .args .self .now))) (λ v. (v, left-of (c .due .last .self))))
-    (sym (c .here .ensures))
-    (line-read Tables lengths-of (λ v. v) (left-of (c .args .self .now)) (left-of (c .due .last .self)) (c .in-Continue-rest .rest .now)
-      (c .read-lengths .result) (c .in-Continue-rest .ensures tt) (c .read-lengths .ensures))
+  line-answers Tables lengths-of (λ v. v) (left-of (c .args .self .now)) (left-of (c .due .last .self)) (c .in-Continue-rest .rest .now)
+    (c .read-lengths .result) (c .here .result) (c .in-Continue-rest .ensures tt) (c .read-lengths .ensures) (c .here .ensures)
