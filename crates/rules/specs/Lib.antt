@@ -10,3 +10,6 @@ pub mod Counting
 pub mod Tables
 pub mod Rings
 pub mod Judges
+pub mod Walks
+pub mod Opening
+pub mod Facts

@@ -1,0 +1,3 @@
+pub mod Marking
+pub mod Going
+pub mod Accepts

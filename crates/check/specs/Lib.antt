@@ -1,0 +1,4 @@
+pub mod Expecting
+pub mod Faults
+pub mod Walking
+pub mod Accepting

@@ -1,0 +1,4 @@
+#[cfg(test)]
+mod tests;
+#[cfg(test)]
+mod written;

@@ -1,0 +1,4 @@
+pub mod KindWords
+pub mod Reads
+pub mod Writes
+pub mod Cursor

@@ -1,0 +1,4 @@
+pub mod Sizes
+pub mod Fuel
+pub mod Sounds
+pub mod Reading
