@@ -14,7 +14,7 @@ use Rattle.records.specs.Reads.{headOf}
 use Rattle.records.specs.declared.record.Record.{Record}
 use Rattle.outline.specs.declared.lines.OutlineLine.{OutlineLine}
 use Rattle.outline.specs.declared.declared.Named.{Named}
-use Rattle.outline.specs.Outline.{outlined, named-of, names-of}
+use Rattle.outline.specs.Outline.{outlined, line-of, lines-of, named-of, names-of}
 
 -- the walk is at the record n, and goes on behind it
 pub record Turn (words : List ℕ) (here onward n : ℕ) (r : Record) : Type 0 where
@@ -32,15 +32,20 @@ turns words seen here onward n r same is-here is-onward opened =
 three-parts : {A : Type 0} (front one below rest : List A) → ((front ++ one) ++ below) ++ rest ≡ front ++ (one ++ (below ++ rest))
 three-parts front one below rest = append-assoc (front ++ one) below rest ∙ append-assoc front one (below ++ rest)
 
+lines-push : (ls : List OutlineLine) (l : OutlineLine) → lines-of (ls ++ l ∷ []) ≡ lines-of ls ++ line-of l ∷ []
+lines-push [] l = refl
+lines-push (k ∷ ls) l = ap (λ hs. line-of k ∷ hs) (lines-push ls l)
+
 -- a record and those below it are written into the outline
-pub outline-more : (nesting : ℕ) (before pushed after : List OutlineLine) (h : Head) (children rest tree : Chain)
-  → tree ≡ link h children rest → pushed ≡ before ++ record { nesting = nesting; «record» = h .number } ∷ []
-  → after ≡ pushed ++ outlined (nesting + 1) children
-  → after ++ outlined nesting rest ≡ before ++ outlined nesting tree
-outline-more nesting before pushed after h children rest tree opened is-pushed is-after =
-  ap (λ l. l ++ outlined nesting rest) (is-after ∙ ap (λ l. l ++ outlined (nesting + 1) children) is-pushed)
-  ∙ three-parts before (record { nesting = nesting; «record» = h .number } ∷ []) (outlined (nesting + 1) children) (outlined nesting rest)
-  ∙ ap (λ c. before ++ outlined nesting c) (sym opened)
+pub outline-more : (nesting n : ℕ) (r : Record) (before pushed after : List OutlineLine) (children rest tree : Chain)
+  → tree ≡ link (headOf n r) children rest → pushed ≡ before ++ record { nesting = nesting; number = n; «record» = r } ∷ []
+  → lines-of after ≡ lines-of pushed ++ outlined (nesting + 1) children
+  → lines-of after ++ outlined nesting rest ≡ lines-of before ++ outlined nesting tree
+outline-more nesting n r before pushed after children rest tree opened is-pushed is-after =
+  ap (λ l. l ++ outlined nesting rest)
+    (is-after ∙ ap (λ l. l ++ outlined (nesting + 1) children) (ap lines-of is-pushed ∙ lines-push before (record { nesting = nesting; number = n; «record» = r })))
+  ∙ three-parts (lines-of before) (record { nesting = nesting; head = headOf n r } ∷ []) (outlined (nesting + 1) children) (outlined nesting rest)
+  ∙ ap (λ c. lines-of before ++ outlined nesting c) (sym opened)
 
 names-append : (hs ks : List Head) → names-of (hs ++ ks) ≡ names-of hs ++ names-of ks
 names-append [] ks = refl

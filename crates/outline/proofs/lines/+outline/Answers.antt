@@ -3,7 +3,6 @@ use native.Mathlib.Omega.{arith}
 use mathlib.Core.Path.{_∙_}
 use Rattle.std.specs.Of.Vec.{vec-items}
 use Rattle.rules.specs.Words.{treeOf}
-use Rattle.records.specs.Reads.{headOf}
 use Rattle.outline.proofs.Walking.{Turn, turns, outline-more}
 use Rattle.outline.proofs.lines.+outline.Needs as need
 
@@ -20,8 +19,9 @@ loop-number-again t c =
   (c .in-Some .ensures tt .steps .0 ∙ c .loop-number .inv .0,
    turn t c .whole,
    omega (arith, turn t c .level, c .loop-number .inv .2),
-   outline-more (c .args .nesting) (vec-items (c .loop-number .lines)) (vec-items (c .push .last .self)) (vec-items (c .outline .last .lines))
-     (headOf (c .in-Some .number) (c .in-Some .record)) (treeOf (c .args .words .now) (c .in-Some .record .first))
+   outline-more (c .args .nesting) (c .in-Some .number) (c .in-Some .record)
+     (vec-items (c .loop-number .lines)) (vec-items (c .push .last .self)) (vec-items (c .outline .last .lines))
+     (treeOf (c .args .words .now) (c .in-Some .record .first))
      (treeOf (c .args .words .now) (c .next .last .self .at)) (treeOf (c .args .words .now) (c .loop-number .number-iterator .at))
      (turn t c .is) (c .in-Continue-push .ensures tt .items) (c .in-Continue-outline .ensures tt)
    ∙ c .loop-number .inv .3)

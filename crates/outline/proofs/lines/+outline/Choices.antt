@@ -4,7 +4,7 @@ use mathlib.Core.List.{_++_}
 use Rattle.std.specs.Of.Vec.{vec-items}
 use Rattle.rules.specs.Opening.{depth}
 use Rattle.rules.specs.Words.{treeOf, Whole}
-use Rattle.outline.specs.Outline.{outlined}
+use Rattle.outline.specs.Outline.{outlined, lines-of}
 use Rattle.outline.proofs.lines.+outline.Given as given
 
 abbrev pub μ-outline : given.MeasureT-outline
@@ -15,5 +15,5 @@ Inv-loop-number l =
   (l .number-iterator .words .now ≡ l .words)
   × Whole (l .words) (l .number-iterator .at)
   × (depth (treeOf (l .words) (l .number-iterator .at)) + l .nesting ≤ 129)
-  × (vec-items (l .lines) ++ outlined (l .nesting) (treeOf (l .words) (l .number-iterator .at))
-    ≡ vec-items (l .entry .lines) ++ outlined (l .nesting) (treeOf (l .words) (l .entry .number-iterator .at)))
+  × (lines-of (vec-items (l .lines)) ++ outlined (l .nesting) (treeOf (l .words) (l .number-iterator .at))
+    ≡ lines-of (vec-items (l .entry .lines)) ++ outlined (l .nesting) (treeOf (l .words) (l .entry .number-iterator .at)))
