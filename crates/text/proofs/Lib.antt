@@ -3,3 +3,4 @@ pub mod Reading
 pub mod Names
 pub mod Passing
 pub mod ReadBack
+pub mod Shrinking

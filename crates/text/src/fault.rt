@@ -4,6 +4,7 @@ ghost use Rattle.text.specs.declared.fault.Problem.the-variants.{Memory};
 ghost use Rattle.text.specs.Keywords.{spelling};
 use std::alloc::AllocError;
 use std::alloc::Refused;
+use std::error::Error;
 use std::fmt;
 
 /// The word that a line begins with.
@@ -113,3 +114,5 @@ pub impl fmt::Display for TextFault as TextFaultDisplay {
         write!(f, "line {line}: {problem}")
     }
 }
+
+pub impl Error for TextFault as TextFaultError {}

@@ -28,6 +28,7 @@ pub use fault::ProblemPartialEq;
 pub use fault::TextFault;
 pub use fault::TextFaultDebug;
 pub use fault::TextFaultDisplay;
+pub use fault::TextFaultError;
 pub use fault::TextFaultPartialEq;
 pub use words::FromWord;
 pub use words::NumberFromWord;

@@ -1,12 +1,15 @@
 // Reading the next case of a text.
 ghost use mathlib.Core.Path.{_≡_};
 ghost use mathlib.Core.Bool.{true, false};
+ghost use Prim.Native.Nat.{_<_};
+ghost use lib.ListN.{length};
 ghost use Rattle.std.specs.declared.option.Option.the-variants.{Some, None};
 ghost use Rattle.std.specs.declared.result.Result.the-variants.{Ok, Err};
 ghost use Rattle.std.specs.Of.String.{string-bytes};
 ghost use Rattle.std.specs.Of.Vec.{vec-items};
-ghost use Rattle.std.specs.Options.{mapped};
+ghost use Rattle.std.specs.Options.{isSome, mapped};
 ghost use Rattle.std.specs.Results.{Cases as Either};
+ghost use Rattle.std.specs.Vec.{made};
 ghost use Rattle.text.specs.declared.fault.Keyword.the-variants.{Case as CaseLine, Set, Retain, Tables, Tree, Calls, End};
 ghost use Rattle.text.specs.Gives.{Finds, Gives};
 ghost use Rattle.text.specs.Keywords.{known};
@@ -190,7 +193,8 @@ impl<'a> Cases<'a> {
 
     /// Reads the next case, if there is one; or says what is wrong with the first line that is not as it should be.
     pub fn next_case(&mut self, heap: Global) -> Result<Option<Case>, TextFault>
-        ensures { λ r. ⌜ Finds (next-said (left-of (now (self .entry)))) (mapped (λ v. (said-of v, left-of (now (self .exit))))) r ⌝ }
+        ensures finds { λ r. ⌜ Finds (next-said (left-of (now (self .entry)))) (mapped (λ v. (said-of v, left-of (now (self .exit))))) r ⌝ }
+        ensures shorter { λ r. ⌜ made r (λ found. isSome found ≡ true → length (left-of (now (self .exit)) .lines) < length (left-of (now (self .entry)) .lines)) ⌝ }
     {
         self.pass_over(true);
         if self.rest.is_empty() {
