@@ -1,0 +1,2 @@
+pub mod Accepts
+pub mod Outline

@@ -1,0 +1,6 @@
+pub mod Cuts
+pub mod Reading
+pub mod Names
+pub mod Passing
+pub mod ReadBack
+pub mod Shrinking

@@ -1,0 +1,35 @@
+// The reader of cases: a tree, settings, table lengths and calls, written as lines of text.
+mod case;
+mod cases;
+mod fault;
+mod words;
+
+pub use case::Call;
+pub use case::CallDebug;
+pub use case::CallFromWord;
+pub use case::CallPartialEq;
+pub use case::Case;
+pub use case::Judge;
+pub use case::JudgeDebug;
+pub use case::JudgePartialEq;
+pub use case::Settings;
+pub use case::SettingsDebug;
+pub use case::SettingsPartialEq;
+pub use case::TableLengths;
+pub use case::TableLengthsDebug;
+pub use case::TableLengthsPartialEq;
+pub use cases::Cases;
+pub use fault::Keyword;
+pub use fault::KeywordDisplay;
+pub use fault::Problem;
+pub use fault::ProblemDebug;
+pub use fault::ProblemDisplay;
+pub use fault::ProblemPartialEq;
+pub use fault::TextFault;
+pub use fault::TextFaultDebug;
+pub use fault::TextFaultDisplay;
+pub use fault::TextFaultError;
+pub use fault::TextFaultPartialEq;
+pub use words::FromWord;
+pub use words::NumberFromWord;
+pub use words::read_numbers;
