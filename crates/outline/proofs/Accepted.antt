@@ -1,6 +1,6 @@
 -- What is known of words that the check accepts: reading from the root comes to an end, not too deep, and reaches no more
 -- records than there are.
-use Prim.Native.Nat.{ℕ, _+_, _-_, _/_, _≤_}
+use Prim.Native.Nat.{ℕ, _/_, _≤_}
 use native.Mathlib.Omega.{arith}
 use mathlib.Core.Path.{_≡_, refl, sym, subst, ap, _∙_}
 use mathlib.Core.Bool.{true}
@@ -39,13 +39,13 @@ accepted-most words is =
 pub accepts-so : (words : List ℕ) (c : Chain) → check words ≡ fine c → accepts words ≡ true
 accepts-so words c is = ap is-fine is
 
--- the records that are not reached are the others
-pub unreached-so : (words : List ℕ) (count long : ℕ) → accepts words ≡ true → count ≡ reached (treeOf words 1) → long ≡ length words
-  → (count ≤ long / 6) × (long / 6 - count + reached (treeOf words 1) ≡ records words)
-unreached-so words count long is counted same =
+-- a sixth of the words are the records, the reached ones among them
+pub records-so : (words : List ℕ) (count long : ℕ) → accepts words ≡ true → count ≡ reached (treeOf words 1) → long ≡ length words
+  → (long / 6 ≡ records words) × (count ≤ long / 6)
+records-so words count long is counted same =
   let most = accepted-most words is in
   let rooms : long / 6 ≡ records words = ap (λ n. n / 6) same in
-  (omega arith, omega arith)
+  (rooms, omega arith)
 
 -- words that are the accepted ones lead to a chain that ends, not too deep
 pub whole-so : (words lent : List ℕ) → accepts words ≡ true → lent ≡ words → Whole lent 1 × (depth (treeOf lent 1) ≤ most-nesting)

@@ -1,11 +1,9 @@
 // The names that a tree declares, with the records that bear them.
 ghost use mathlib.Core.Path.{_≡_};
 ghost use mathlib.Core.List.{[], _++_};
-ghost use Prim.Native.Nat.{_≤_};
 ghost use Rattle.std.specs.Of.Vec.{vec-items};
 ghost use Rattle.std.specs.Vec.{made};
 ghost use Rattle.rules.specs.Names.{binding as binds-below, binds, nests, keep, under, declares, declaring, declared};
-ghost use Rattle.rules.specs.Opening.{depth};
 ghost use Rattle.rules.specs.Words.{treeOf, Whole};
 ghost use Rattle.records.specs.KindWords.{kind-word};
 ghost use Rattle.records.specs.Reads.{headOf};
@@ -34,9 +32,6 @@ pub(crate) struct Under {
     default: bool,
 }
 
-// How many records may stand on a way down.
-const MOST_NESTING: u32 = 128;
-
 impl CheckedTree {
     /// The names that the tree declares in walk order, each with the record that bears it.
     pub fn declared(&self, heap: Global) -> Result<Vec<Named>, AllocError>
@@ -44,20 +39,19 @@ impl CheckedTree {
     {
         let mut found = Vec::new(heap);
         let nothing = Under { binding: false, default: false };
-        declare(self.words(), ROOT, MOST_NESTING, nothing, &mut found)?;
+        declare(self.words(), ROOT, nothing, &mut found)?;
         Ok(found)
     }
 }
 
 // Puts the names that are declared from a link on, and below, behind those that were found.
-fn declare(words: &[u32], first: u32, left: u32, under: Under, found: &mut Vec<Named>) -> Result<(), AllocError>
-    requires whole { ⌜ Whole (now words) first ⌝ }
-    requires deep { ⌜ depth (treeOf (now words) first) ≤ left ⌝ }
+fn declare(words: &[u32], first: u32, under: Under, found: &mut Vec<Named>) -> Result<(), AllocError>
+    requires { ⌜ Whole (now words) first ⌝ }
     ensures { λ r. ⌜ made r (λ _. vec-items (now (found .exit)) ≡ vec-items (now (found .entry)) ++ names-of (declaring (under-of under) (treeOf (now (words .entry)) first))) ⌝ }
 {
     for (number, record) in Children::of(words, first) {
         note(under, number, record, found)?;
-        declare(words, record.first, left - 1, under.below(record), found)?;
+        declare(words, record.first, under.below(record), found)?;
     }
     Ok(())
 }

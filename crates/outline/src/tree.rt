@@ -14,6 +14,9 @@ ghost use Rattle.outline.specs.Accepts.{accepts};
 use check::CheckFault;
 use check::check;
 
+/// How many words a record has.
+const RECORD_WORDS: usize = 6;
+
 /// Words that the check accepted, and how many records their root reaches.
 #[derive(Drop)]
 pub struct CheckedTree {
@@ -52,6 +55,14 @@ impl CheckedTree {
     pub fn unreached(&self) -> usize
         ensures { λ r. ⌜ r + reached (treeOf (vec-items (now (self .entry) .words)) 1) ≡ records (vec-items (now (self .entry) .words)) ⌝ }
     {
-        self.words.len() / 6 - self.count as usize
+        self.records() - self.count as usize
+    }
+
+    // How many records the words have room for, the reached ones among them.
+    fn records(&self) -> usize
+        ensures value { λ r. ⌜ r ≡ records (vec-items (now (self .entry) .words)) ⌝ }
+        ensures bound { λ r. ⌜ now (self .entry) .count ≤ r ⌝ }
+    {
+        self.words.len() / RECORD_WORDS
     }
 }
