@@ -27,13 +27,13 @@ accepted-whole words is = let c = given (check words) is in tree-is-read words (
 
 pub accepted-deep : (words : List ℕ) → accepts words ≡ true → depth (treeOf words 1) ≤ most-nesting
 accepted-deep words is =
-  let c = given (check words) is in
-  rw (tree-is-read words (c .0) (c .1) .0) (tree-depth words (c .0) (check-sound words (c .0) (c .1)))
+    let c = given (check words) is in
+    rw (tree-is-read words (c .0) (c .1) .0) (tree-depth words (c .0) (check-sound words (c .0) (c .1)))
 
 pub accepted-most : (words : List ℕ) → accepts words ≡ true → reached (treeOf words 1) ≤ records words
 accepted-most words is =
-  let c = given (check words) is in
-  rw (tree-is-read words (c .0) (c .1) .0) (check-most words (c .0) (c .1))
+    let c = given (check words) is in
+    rw (tree-is-read words (c .0) (c .1) .0) (check-most words (c .0) (c .1))
 
 -- what the check gave is accepted
 pub accepts-so : (words : List ℕ) (c : Chain) → check words ≡ fine c → accepts words ≡ true
@@ -41,11 +41,11 @@ accepts-so words c is = ap is-fine is
 
 -- a sixth of the words are the records, the reached ones among them
 pub records-so : (words : List ℕ) (count long : ℕ) → accepts words ≡ true → count ≡ reached (treeOf words 1) → long ≡ length words
-  → (long / 6 ≡ records words) × (count ≤ long / 6)
+    → (long / 6 ≡ records words) × (count ≤ long / 6)
 records-so words count long is counted same =
-  let most = accepted-most words is in
-  let rooms : long / 6 ≡ records words = ap (λ n. n / 6) same in
-  (rooms, omega arith)
+    let most = accepted-most words is in
+    let rooms : long / 6 ≡ records words = ap (λ n. n / 6) same in
+    (rooms, omega arith)
 
 -- words that are the accepted ones lead to a chain that ends, not too deep
 pub whole-so : (words lent : List ℕ) → accepts words ≡ true → lent ≡ words → Whole lent 1 × (depth (treeOf lent 1) ≤ most-nesting)

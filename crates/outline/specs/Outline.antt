@@ -26,7 +26,7 @@ pub record Outlined : Type 0 where
 abbrev pub outlined : (nesting : ℕ) → Chain → List Outlined
 outlined nesting end = []
 outlined nesting (link h children rest) =
-  record { nesting = nesting; head = h } ∷ (outlined (nesting + 1) children ++ outlined nesting rest)
+    record { nesting = nesting; head = h } ∷ (outlined (nesting + 1) children ++ outlined nesting rest)
 
 -- what a line of the code says
 abbrev pub line-of : OutlineLine → Outlined

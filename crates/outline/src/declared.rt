@@ -38,14 +38,22 @@ impl CheckedTree {
         ensures { λ r. ⌜ made r (λ v. vec-items v ≡ names-of (declared (treeOf (vec-items (now (self .entry) .words)) 1))) ⌝ }
     {
         let mut found = Vec::new(heap);
-        let nothing = Under { binding: false, default: false };
+        let nothing = Under {
+            binding: false,
+            default: false,
+        };
         declare(self.words(), ROOT, nothing, &mut found)?;
         Ok(found)
     }
 }
 
 // Puts the names that are declared from a link on, and below, behind those that were found.
-fn declare(words: &[u32], first: u32, under: Under, found: &mut Vec<Named>) -> Result<(), AllocError>
+fn declare(
+    words: &[u32],
+    first: u32,
+    under: Under,
+    found: &mut Vec<Named>,
+) -> Result<(), AllocError>
     requires { ⌜ Whole (now words) first ⌝ }
     ensures { λ r. ⌜ made r (λ _. vec-items (now (found .exit)) ≡ vec-items (now (found .entry)) ++ names-of (declaring (under-of under) (treeOf (now (words .entry)) first))) ⌝ }
 {
@@ -61,7 +69,11 @@ fn note(under: Under, number: u32, node: Record, found: &mut Vec<Named>) -> Resu
     ensures { λ r. ⌜ made r (λ _. vec-items (now (found .exit)) ≡ vec-items (now (found .entry)) ++ names-of (keep (declares (under-of under) (headOf number node)) (headOf number node) [])) ⌝ }
 {
     if under.declares(node) {
-        found.push(Named { symbol: node.symbol, mark: node.mark, record: number })?;
+        found.push(Named {
+            symbol: node.symbol,
+            mark: node.mark,
+            record: number,
+        })?;
     }
     Ok(())
 }
@@ -115,5 +127,8 @@ fn is_bound(node: Record) -> bool
 fn is_declaration(kind: Kind) -> bool
     ensures { λ r. ⌜ r ≡ declares-itself (kind-word kind) ⌝ }
 {
-    matches!(kind, Kind::Specifier | Kind::FnDeclaration | Kind::ClassDeclaration)
+    matches!(
+        kind,
+        Kind::Specifier | Kind::FnDeclaration | Kind::ClassDeclaration
+    )
 }

@@ -35,13 +35,22 @@ impl CheckedTree {
 }
 
 // Puts the records from a link on, and those under them, behind what stands in the lines.
-fn outline(words: &[u32], first: u32, nesting: u32, lines: &mut Vec<OutlineLine>) -> Result<(), AllocError>
+fn outline(
+    words: &[u32],
+    first: u32,
+    nesting: u32,
+    lines: &mut Vec<OutlineLine>,
+) -> Result<(), AllocError>
     requires whole { ⌜ Whole (now words) first ⌝ }
     requires deep { ⌜ depth (treeOf (now words) first) + nesting ≤ 129 ⌝ }
     ensures { λ r. ⌜ made r (λ _. lines-of (vec-items (now (lines .exit))) ≡ lines-of (vec-items (now (lines .entry))) ++ outlined nesting (treeOf (now (words .entry)) first)) ⌝ }
 {
     for (number, record) in Children::of(words, first) {
-        lines.push(OutlineLine { nesting, number, record })?;
+        lines.push(OutlineLine {
+            nesting,
+            number,
+            record,
+        })?;
         outline(words, record.first, nesting + 1, lines)?;
     }
     Ok(())

@@ -40,7 +40,14 @@ fn shake(rt: &LibcRuntime, text: &[u8]) -> Result<(), AnyError> {
 
 // Prints what the check finds of a case's tree.
 fn print_case(rt: &LibcRuntime, case: Case) -> io::Result<()> {
-    let Case { name, settings: _, retain: _, tables: _, tree, calls: _ } = case;
+    let Case {
+        name,
+        settings: _,
+        retain: _,
+        tables: _,
+        tree,
+        calls: _,
+    } = case;
     println!(rt, "case {name}")?;
     match CheckedTree::new(tree) {
         Ok(tree) => print_tree(rt, &tree),

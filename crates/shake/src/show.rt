@@ -55,13 +55,18 @@ pub impl fmt::Display for Refusal as RefusalDisplay {
     fn fmt<W: fmt::Write>(&self, f: &mut fmt::Formatter<W>) -> fmt::Result {
         match self.0 {
             CheckFault::Lengths => {
-                f.write_str("refused 1 at record 0: there are no words, too many, or no whole number of records")
+                f.write_str(
+                    "refused 1 at record 0: there are no words, too many, or no whole number of records",
+                )
             }
             CheckFault::Link(record) => write!(
                 f,
                 "refused 2 at record {record}: the link leads past the tree, or to a record that was reached before"
             ),
-            CheckFault::Deep(record) => write!(f, "refused 3 at record {record}: the record is nested deeper than 128"),
+            CheckFault::Deep(record) => write!(
+                f,
+                "refused 3 at record {record}: the record is nested deeper than 128"
+            ),
             CheckFault::Misfit(record) => write!(
                 f,
                 "refused 4 at record {record}: the record is against the table of kinds, or its children end too early"

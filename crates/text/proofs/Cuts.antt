@@ -29,35 +29,36 @@ behind-other : (separator b : ℕ) (bs : List ℕ) → (b ≡ separator → ⊥)
 behind-other separator b bs other = rw (ne-eqb b separator other)
 
 pub passed-more : (separator : ℕ) (bytes : List ℕ) (i b : ℕ) → i < length bytes → b ≡ getD bytes i 0 → (b ≡ separator → ⊥)
-  → Passed separator bytes i → Passed separator bytes (i + 1)
+    → Passed separator bytes i → Passed separator bytes (i + 1)
 passed-more separator bytes i b within is other passed =
-  let opened : drop i bytes ≡ b ∷ drop (i + 1) bytes = rw is (drop-more bytes i 0 within) in
-  let taken : take (i + 1) bytes ≡ take i bytes ++ b ∷ [] = rw is (take-more bytes i 0 within) in
-  record {
-    front =
-      passed .front
-      ∙ ap (λ bs. take i bytes ++ before separator bs) opened
-      ∙ ap (λ bs. take i bytes ++ bs) (before-other separator b (drop (i + 1) bytes) other)
-      ∙ sym (append-assoc (take i bytes) (b ∷ []) (before separator (drop (i + 1) bytes)))
-      ∙ ap (λ bs. bs ++ before separator (drop (i + 1) bytes)) (sym taken);
-    back = passed .back ∙ ap (behind separator) opened ∙ behind-other separator b (drop (i + 1) bytes) other }
+    let opened : drop i bytes ≡ b ∷ drop (i + 1) bytes = rw is (drop-more bytes i 0 within) in
+    let taken : take (i + 1) bytes ≡ take i bytes ++ b ∷ [] = rw is (take-more bytes i 0 within) in
+    record {
+      front =
+          passed .front
+          ∙ ap (λ bs. take i bytes ++ before separator bs) opened
+          ∙ ap (λ bs. take i bytes ++ bs) (before-other separator b (drop (i + 1) bytes) other)
+          ∙ sym (append-assoc (take i bytes) (b ∷ []) (before separator (drop (i + 1) bytes)))
+          ∙ ap (λ bs. bs ++ before separator (drop (i + 1) bytes)) (sym taken);
+      back = passed .back ∙ ap (behind separator) opened ∙ behind-other separator b (drop (i + 1) bytes) other;
+    }
 
 -- the byte at i is the first separator
 pub found-front : (separator : ℕ) (bytes : List ℕ) (i b : ℕ) → i < length bytes → b ≡ getD bytes i 0 → b ≡ separator
-  → Passed separator bytes i → before separator bytes ≡ take i bytes
+    → Passed separator bytes i → before separator bytes ≡ take i bytes
 found-front separator bytes i b within is same passed =
-  passed .front ∙ ap (λ bs. take i bytes ++ before separator bs) (drop-more bytes i 0 within)
-  ∙ rw (← is, eq-eqb b separator same) (append-nil (take i bytes))
+    passed .front ∙ ap (λ bs. take i bytes ++ before separator bs) (drop-more bytes i 0 within)
+    ∙ rw (← is, eq-eqb b separator same) (append-nil (take i bytes))
 
 pub found-back : (separator : ℕ) (bytes : List ℕ) (i b : ℕ) → i < length bytes → b ≡ getD bytes i 0 → b ≡ separator
-  → Passed separator bytes i → behind separator bytes ≡ drop (i + 1) bytes
+    → Passed separator bytes i → behind separator bytes ≡ drop (i + 1) bytes
 found-back separator bytes i b within is same passed =
-  passed .back ∙ ap (behind separator) (drop-more bytes i 0 within) ∙ rw (← is, eq-eqb b separator same)
+    passed .back ∙ ap (behind separator) (drop-more bytes i 0 within) ∙ rw (← is, eq-eqb b separator same)
 
 -- all bytes are passed: there is no separator
 pub passed-all-front : (separator : ℕ) (bytes : List ℕ) (i : ℕ) → length bytes ≤ i → Passed separator bytes i → before separator bytes ≡ bytes
 passed-all-front separator bytes i whole passed =
-  passed .front ∙ rw (drop-all i bytes whole, take-all i bytes whole) (append-nil bytes)
+    passed .front ∙ rw (drop-all i bytes whole, take-all i bytes whole) (append-nil bytes)
 
 pub passed-all-back : (separator : ℕ) (bytes : List ℕ) (i : ℕ) → length bytes ≤ i → Passed separator bytes i → behind separator bytes ≡ []
 passed-all-back separator bytes i whole passed = passed .back ∙ ap (behind separator) (drop-all i bytes whole)
@@ -66,36 +67,41 @@ passed-all-back separator bytes i whole passed = passed .back ∙ ap (behind sep
 pub behind-at-most : (separator : ℕ) (bytes : List ℕ) → length (behind separator bytes) ≤ length bytes
 behind-at-most separator [] = omega arith
 behind-at-most separator (b ∷ bs) =
-  elim (eqb b separator) as (λ t. length (cond t bs (behind separator bs)) ≤ suc (length bs)) [
-    true ↦ omega arith
-  | false ↦ omega (arith, behind-at-most separator bs) ]
+    elim (eqb b separator) as (λ t. length (cond t bs (behind separator bs)) ≤ suc (length bs)) [
+      | true ↦ omega arith
+      | false ↦ omega (arith, behind-at-most separator bs)
+    ]
 
 pub behind-shorter : (separator : ℕ) (bytes : List ℕ) → 0 < length bytes → length (behind separator bytes) < length bytes
 behind-shorter separator [] some = absurd (omega arith)
 behind-shorter separator (b ∷ bs) some =
-  elim (eqb b separator) as (λ t. length (cond t bs (behind separator bs)) < suc (length bs)) [
-    true ↦ omega arith
-  | false ↦ omega (arith, behind-at-most separator bs) ]
+    elim (eqb b separator) as (λ t. length (cond t bs (behind separator bs)) < suc (length bs)) [
+      | true ↦ omega arith
+      | false ↦ omega (arith, behind-at-most separator bs)
+    ]
 
 -- a text that is not empty splits at its first separator
 pub split-at-first : (separator : ℕ) (bytes : List ℕ) → 0 < length bytes
-  → split separator bytes ≡ before separator bytes ∷ split separator (behind separator bytes)
+    → split separator bytes ≡ before separator bytes ∷ split separator (behind separator bytes)
 split-at-first separator [] some = absurd (omega arith)
 split-at-first separator (b ∷ []) some =
-  elim (eqb b separator) as (λ t. cond t ([] ∷ []) ((b ∷ []) ∷ []) ≡ cond t [] (b ∷ []) ∷ split separator (cond t [] [])) [
-    true ↦ refl | false ↦ refl ]
+    elim (eqb b separator) as (λ t. cond t ([] ∷ []) ((b ∷ []) ∷ []) ≡ cond t [] (b ∷ []) ∷ split separator (cond t [] [])) [
+      | true ↦ refl
+      | false ↦ refl
+    ]
 split-at-first separator (b ∷ c ∷ bs) some =
-  let rest = split-at-first separator (c ∷ bs) (omega arith) in
-  elim (eqb b separator) as (λ t.
+    let rest = split-at-first separator (c ∷ bs) (omega arith) in
+    elim (eqb b separator) as (λ t.
     cond t ([] ∷ split separator (c ∷ bs)) (onto-first b (split separator (c ∷ bs)))
     ≡ cond t [] (b ∷ before separator (c ∷ bs)) ∷ split separator (cond t (c ∷ bs) (behind separator (c ∷ bs)))) [
-    true ↦ refl
-  | false ↦ ap (onto-first b) rest ]
+      | true ↦ refl
+      | false ↦ ap (onto-first b) rest
+    ]
 
 -- the same of parts that equal those
 pub back-shorter : (separator : ℕ) (bytes back : List ℕ) → back ≡ behind separator bytes → 0 < length bytes → length back < length bytes
 back-shorter separator bytes back is some = rw is (behind-shorter separator bytes some)
 
 pub splits-so : (separator : ℕ) (bytes front back : List ℕ) → front ≡ before separator bytes → back ≡ behind separator bytes
-  → 0 < length bytes → split separator bytes ≡ front ∷ split separator back
+    → 0 < length bytes → split separator bytes ≡ front ∷ split separator back
 splits-so separator bytes front back is-front is-back some = rw (is-front, is-back) (split-at-first separator bytes some)

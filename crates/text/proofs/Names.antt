@@ -22,8 +22,8 @@ use Rattle.text.specs.Lines.{ascii, one-word, name-of}
 -- a test that decides whether bytes are the same is that of the definitions
 pub tells-same : (xs ys zs : List ℕ) (r : Bool) → Matches (λ (a b : ℕ) (t : Bool). Decides t (a ≡ b)) xs ys r → ys ≡ zs → r ≡ sameBytes xs zs
 tells-same xs ys zs r matches same =
-  let decides : Decides r (xs ≡ zs) = rw same at (matches-decides xs ys r matches) in
-  search (needs, sameBytes-decides)
+    let decides : Decides r (xs ≡ zs) = rw same at (matches-decides xs ys r matches) in
+    search (needs, sameBytes-decides)
 
 -- one word, with no space around it
 pub one-word-so : (rest word : List ℕ) → word ≡ before 32 rest → (length word ≡ 0 → ⊥) → length word ≡ length rest → one-word rest ≡ true

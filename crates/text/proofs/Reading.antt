@@ -25,15 +25,15 @@ number-begins (b ∷ bs) some = refl
 
 -- one digit further
 pub number-goes-on : (word : List ℕ) (i n m : ℕ) → i < length word → Ok m ≡ with-digit n (getD word i 0)
-  → number-from n (drop i word) ≡ number-from m (drop (i + 1) word)
+    → number-from n (drop i word) ≡ number-from m (drop (i + 1) word)
 number-goes-on word i n m within read =
-  ap (number-from n) (drop-more word i 0 within) ∙ ap (λ r. andThen r (λ k. number-from k (drop (i + 1) word))) (sym read)
+    ap (number-from n) (drop-more word i 0 within) ∙ ap (λ r. andThen r (λ k. number-from k (drop (i + 1) word))) (sym read)
 
 -- a byte that is no digit, or too much
 pub number-stops : (word : List ℕ) (i n : ℕ) (problem : Problem) → i < length word → Err problem ≡ with-digit n (getD word i 0)
-  → number-from n (drop i word) ≡ Err problem
+    → number-from n (drop i word) ≡ Err problem
 number-stops word i n problem within read =
-  ap (number-from n) (drop-more word i 0 within) ∙ ap (λ r. andThen r (λ k. number-from k (drop (i + 1) word))) (sym read)
+    ap (number-from n) (drop-more word i 0 within) ∙ ap (λ r. andThen r (λ k. number-from k (drop (i + 1) word))) (sym read)
 
 -- no digit is left
 pub number-ends : (word : List ℕ) (i n : ℕ) → length word ≤ i → number-from n (drop i word) ≡ Ok n
@@ -64,43 +64,45 @@ module _ {A E : Type 0} (read : List ℕ → Result A E) where
 
   -- a part without a byte is passed over
   pub sofar-skip : (line rest after word : List ℕ) (values : List A) → length word ≡ 0 → split 32 rest ≡ word ∷ split 32 after
-    → Sofar line values rest → Sofar line values after
+      → Sofar line values rest → Sofar line values after
   sofar-skip line rest after word values none cut sofar =
-    let skip : words rest ≡ words after = words-skip rest after (cut ∙ ap (λ w. w ∷ split 32 after) (nil-from-length word none)) in
-    record { gives = ap (λ ws. prefixed values (each read ws)) (sym skip) ∙ sofar .gives }
+      let skip : words rest ≡ words after = words-skip rest after (cut ∙ ap (λ w. w ∷ split 32 after) (nil-from-length word none)) in
+      record { gives = ap (λ ws. prefixed values (each read ws)) (sym skip) ∙ sofar .gives }
 
   -- a value behind those that were read
   prefixed-more : (values : List A) (value : A) (r : Result (List A) E)
-    → prefixed (values ++ value ∷ []) r ≡ prefixed values (andThen r (λ more. Ok (value ∷ more)))
+      → prefixed (values ++ value ∷ []) r ≡ prefixed values (andThen r (λ more. Ok (value ∷ more)))
   unfolding prefixed
   prefixed-more values value (Ok more) = ap Ok (append-assoc values (value ∷ []) more)
   prefixed-more values value (Err e) = refl
 
   -- a word is read
   pub sofar-more : (line rest after word : List ℕ) (values : List A) (value : A) → (length word ≡ 0 → ⊥) → split 32 rest ≡ word ∷ split 32 after
-    → Ok value ≡ read word → Sofar line values rest → Sofar line (values ++ value ∷ []) after
+      → Ok value ≡ read word → Sofar line values rest → Sofar line (values ++ value ∷ []) after
   sofar-more line rest after word values value some cut is sofar =
-    let opened : words rest ≡ word ∷ words after = words-open rest word after some cut in
-    record { gives =
-      prefixed-more values value (each read (words after))
-      ∙ ap (λ r. prefixed values (andThen r (λ a. andThen (each read (words after)) (λ more. Ok (a ∷ more))))) is
-      ∙ ap (λ ws. prefixed values (each read ws)) (sym opened)
-      ∙ sofar .gives }
+      let opened : words rest ≡ word ∷ words after = words-open rest word after some cut in
+      record {
+        gives =
+            prefixed-more values value (each read (words after))
+            ∙ ap (λ r. prefixed values (andThen r (λ a. andThen (each read (words after)) (λ more. Ok (a ∷ more))))) is
+            ∙ ap (λ ws. prefixed values (each read ws)) (sym opened)
+            ∙ sofar .gives;
+      }
 
   -- a word is refused
   pub sofar-stops : (line rest after word : List ℕ) (values : List A) (e : E) → (length word ≡ 0 → ⊥) → split 32 rest ≡ word ∷ split 32 after
-    → Err e ≡ read word → Sofar line values rest → each read (words line) ≡ Err e
+      → Err e ≡ read word → Sofar line values rest → each read (words line) ≡ Err e
   unfolding prefixed
   sofar-stops line rest after word values e some cut is sofar =
-    let opened : words rest ≡ word ∷ words after = words-open rest word after some cut in
-    sym (sofar .gives)
-    ∙ ap (λ ws. prefixed values (each read ws)) opened
-    ∙ ap (λ r. prefixed values (andThen r (λ a. andThen (each read (words after)) (λ more. Ok (a ∷ more))))) (sym is)
+      let opened : words rest ≡ word ∷ words after = words-open rest word after some cut in
+      sym (sofar .gives)
+      ∙ ap (λ ws. prefixed values (each read ws)) opened
+      ∙ ap (λ r. prefixed values (andThen r (λ a. andThen (each read (words after)) (λ more. Ok (a ∷ more))))) (sym is)
 
   -- no word is left
   pub sofar-all : (line rest : List ℕ) (values : List A) → length rest ≡ 0 → Sofar line values rest → each read (words line) ≡ Ok values
   unfolding prefixed
   sofar-all line rest values none sofar =
-    sym (sofar .gives)
-    ∙ ap (λ bs. prefixed values (each read (words bs))) (nil-from-length rest none)
-    ∙ ap Ok (append-nil values)
+      sym (sofar .gives)
+      ∙ ap (λ bs. prefixed values (each read (words bs))) (nil-from-length rest none)
+      ∙ ap Ok (append-nil values)

@@ -23,6 +23,6 @@ spelling End = codes "end"
 -- bytes that are some keyword's
 abbrev pub known : List ℕ → Bool
 known word =
-  sameBytes word (spelling Case) || sameBytes word (spelling Set) || sameBytes word (spelling Retain)
-  || sameBytes word (spelling Tables) || sameBytes word (spelling Tree) || sameBytes word (spelling Calls)
-  || sameBytes word (spelling End)
+    sameBytes word (spelling Case) || sameBytes word (spelling Set) || sameBytes word (spelling Retain)
+    || sameBytes word (spelling Tables) || sameBytes word (spelling Tree) || sameBytes word (spelling Calls)
+    || sameBytes word (spelling End)

@@ -48,10 +48,10 @@ settings-from (a ∷ []) = Err WrongCount
 settings-from (a ∷ b ∷ []) = Err WrongCount
 settings-from (a ∷ b ∷ c ∷ []) = Err WrongCount
 settings-from (a ∷ b ∷ c ∷ m ∷ []) =
-  andThen (bit a) (λ top-level.
-  andThen (bit b) (λ preserve-imports.
-  andThen (bit c) (λ cautious.
-  Ok (record { «top_level» = top-level; «preserve_imports» = preserve-imports; judge = cond cautious Cautious (Plain m) }))))
+    andThen (bit a) (λ top-level.
+    andThen (bit b) (λ preserve-imports.
+    andThen (bit c) (λ cautious.
+    Ok (record { «top_level» = top-level; «preserve_imports» = preserve-imports; judge = cond cautious Cautious (Plain m) }))))
 settings-from (a ∷ b ∷ c ∷ m ∷ n ∷ ns) = Err WrongCount
 
 -- the settings that a line has
@@ -73,11 +73,11 @@ lengths-of rest = andThen (numbers rest) lengths-from
 -- a call by its name
 abbrev pub call : List ℕ → Result Call Problem
 call word =
-  cond (sameBytes word (codes "begin")) (Ok Begin)
-  (cond (sameBytes word (codes "pass")) (Ok Pass)
-  (cond (sameBytes word (codes "reset")) (Ok Reset)
-  (cond (sameBytes word (codes "repeat")) (Ok Repeat)
-  (Err UnknownCall))))
+    cond (sameBytes word (codes "begin")) (Ok Begin)
+    (cond (sameBytes word (codes "pass")) (Ok Pass)
+    (cond (sameBytes word (codes "reset")) (Ok Reset)
+    (cond (sameBytes word (codes "repeat")) (Ok Repeat)
+    (Err UnknownCall))))
 
 -- the calls that a line has
 abbrev pub calls-of : List ℕ → Result (List Call) Problem

@@ -23,7 +23,7 @@ digit b = leb 48 b && leb b 57
 -- a number with one more digit behind it
 abbrev pub with-digit : ℕ → ℕ → Result ℕ Problem
 with-digit n b =
-  cond (digit b) (cond (ltb (n * 10 + (b - 48)) (2 ^ 32)) (Ok (n * 10 + (b - 48))) (Err TooLarge)) (Err NotANumber)
+    cond (digit b) (cond (ltb (n * 10 + (b - 48)) (2 ^ 32)) (Ok (n * 10 + (b - 48))) (Err TooLarge)) (Err NotANumber)
 
 -- a number with all of these digits behind it
 abbrev pub number-from : ℕ → List ℕ → Result ℕ Problem

@@ -20,4 +20,5 @@ said-of c = record {
   retain = vec-items (c .retain);
   tables = c .tables;
   tree = vec-items (c .tree);
-  calls = vec-items (c .calls) }
+  calls = vec-items (c .calls);
+}

@@ -46,7 +46,7 @@ skipped between (b ∷ bs) = eqb b 35
 abbrev pub pass-over : (between : Bool) → List (List ℕ) → ℕ → Left
 pass-over between [] number = record { lines = []; number = number }
 pass-over between (line ∷ lines) number =
-  cond (skipped between line) (pass-over between lines (number + 1)) (record { lines = line ∷ lines; number = number })
+    cond (skipped between line) (pass-over between lines (number + 1)) (record { lines = line ∷ lines; number = number })
 
 -- the same from where the reader is
 abbrev pub pass-over-from : (between : Bool) → Left → Left
@@ -55,8 +55,8 @@ pass-over-from between here = pass-over between (here .lines) (here .number)
 -- what stands behind the keyword that is due
 abbrev pub rest-of : Keyword → List ℕ → Result (List ℕ) Problem
 rest-of due line =
-  cond (sameBytes (before 32 line) (spelling due)) (Ok (behind 32 line))
-  (cond (known (before 32 line)) (Err (Expected due)) (Err UnknownLine))
+    cond (sameBytes (before 32 line) (spelling due)) (Ok (behind 32 line))
+    (cond (known (before 32 line)) (Err (Expected due)) (Err UnknownLine))
 
 -- a value of line `number`, or the problem with that line
 abbrev pub numbered : {A : Type 0} → (number : ℕ) → Result A Problem → Result A TextFault
@@ -97,17 +97,24 @@ pub record Said : Type 0 where
 -- a case from its seven lines
 abbrev pub said : Left → Result (Said × Left) TextFault
 said here =
-  andThen (read-line Case name-of here) (λ name.
-  andThen (read-line Set settings-of (name .1)) (λ settings.
-  andThen (read-line Retain numbers (settings .1)) (λ retain.
-  andThen (read-line Tables lengths-of (retain .1)) (λ tables.
-  andThen (read-line Tree numbers (tables .1)) (λ tree.
-  andThen (read-line Calls calls-of (tree .1)) (λ calls.
-  andThen (read-line End nothing-of (calls .1)) (λ finish.
-  Ok (record {
-      name = name .0; settings = settings .0; retain = retain .0;
-      tables = tables .0; tree = tree .0; calls = calls .0 },
-    finish .1))))))))
+    andThen (read-line Case name-of here) (λ name.
+    andThen (read-line Set settings-of (name .1)) (λ settings.
+    andThen (read-line Retain numbers (settings .1)) (λ retain.
+    andThen (read-line Tables lengths-of (retain .1)) (λ tables.
+    andThen (read-line Tree numbers (tables .1)) (λ tree.
+    andThen (read-line Calls calls-of (tree .1)) (λ calls.
+    andThen (read-line End nothing-of (calls .1)) (λ finish.
+    Ok (
+      record {
+        name = name .0;
+        settings = settings .0;
+        retain = retain .0;
+        tables = tables .0;
+        tree = tree .0;
+        calls = calls .0;
+      },
+      finish .1,
+    ))))))))
 
 -- the case that begins at the first of these lines, if there is one
 abbrev pub said-from : List (List ℕ) → ℕ → Result (Option (Said × Left)) TextFault

@@ -125,7 +125,9 @@ fn settings_from(numbers: &[u32]) -> Result<Settings, Problem>
         judge: if read_bit(*cautious)? {
             Judge::Cautious
         } else {
-            Judge::Plain { unresolved: *unresolved }
+            Judge::Plain {
+                unresolved: *unresolved,
+            }
         },
     })
 }
@@ -142,7 +144,11 @@ fn lengths_from(numbers: &[u32]) -> Result<TableLengths, Problem>
     ensures { λ r. ⌜ r ≡ lengths-from (now (numbers .entry)) ⌝ }
 {
     match numbers {
-        [declared, names, edges] => Ok(TableLengths { declared: *declared, names: *names, edges: *edges }),
+        [declared, names, edges] => Ok(TableLengths {
+            declared: *declared,
+            names: *names,
+            edges: *edges,
+        }),
         _ => Err(Problem::WrongCount),
     }
 }

@@ -93,7 +93,9 @@ pub impl fmt::Display for Keyword as KeywordDisplay {
 pub impl fmt::Display for Problem as ProblemDisplay {
     fn fmt<W: fmt::Write>(&self, f: &mut fmt::Formatter<W>) -> fmt::Result {
         match self {
-            Problem::UnknownLine => f.write_str("the line begins with none of case, set, retain, tables, tree, calls and end"),
+            Problem::UnknownLine => f.write_str(
+                "the line begins with none of case, set, retain, tables, tree, calls and end",
+            ),
             Problem::Expected(keyword) => write!(f, "a line beginning with {keyword} is due here"),
             Problem::NotANumber => f.write_str("a word is not a decimal number"),
             Problem::TooLarge => f.write_str("a number is not below 2^32"),

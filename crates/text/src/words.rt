@@ -44,7 +44,8 @@ pub trait FromWord {
 
     /// Reads the word, or says what is wrong with it.
     fn from_word(word: &[u8]) -> Result<Self, Problem>
-        where Self: Sized
+    where
+        Self: Sized,
         ensures { λ r. ⌜ r ≡ meaning (now (word .entry)) ⌝ };
 }
 

@@ -23,7 +23,8 @@ mod tests {
     use text::TextFaultPartialEq;
     use text::read_numbers;
 
-    const TWO_CASES: &[u8] = b"# a comment\n\ncase ring\nset 1 0 0 7\nretain\n# inside\ntables 4 12 8\ntree 1  0 4294967295\ncalls begin pass reset repeat\nend\n\ncase last\nset 0 1 1 0\nretain 4 5\ntables 0 0 0\ntree\ncalls\nend";
+    const TWO_CASES: &[u8] =
+        b"# a comment\n\ncase ring\nset 1 0 0 7\nretain\n# inside\ntables 4 12 8\ntree 1  0 4294967295\ncalls begin pass reset repeat\nend\n\ncase last\nset 0 1 1 0\nretain 4 5\ntables 0 0 0\ntree\ncalls\nend";
 
     #[test]
     fn two_cases_are_read_whole(rt: LibcRuntime) -> Result<(), Fail> {
@@ -34,7 +35,14 @@ mod tests {
         check(first.settings.top_level && !first.settings.preserve_imports)?;
         check_eq(first.settings.judge, Judge::Plain { unresolved: 7 })?;
         check(first.retain.is_empty())?;
-        check_eq(first.tables, TableLengths { declared: 4, names: 12, edges: 8 })?;
+        check_eq(
+            first.tables,
+            TableLengths {
+                declared: 4,
+                names: 12,
+                edges: 8,
+            },
+        )?;
         check(first.tree.as_slice() == [1, 0, 4294967295])?;
         check(first.calls.as_slice() == [Call::Begin, Call::Pass, Call::Reset, Call::Repeat])?;
         let second = cases.next_case(heap)?.ok_or("no second case")?;
@@ -53,11 +61,31 @@ mod tests {
         ("case a\n\nset 1 0 0 1", 2, Problem::UnknownLine),
         ("set 1 0 0 1", 1, Problem::Expected(Keyword::Case)),
         ("case a\ncase a", 2, Problem::Expected(Keyword::Set)),
-        ("case a\nset 1 0 0 1\ntables 1 1 1", 3, Problem::Expected(Keyword::Retain)),
-        ("case a\nset 1 0 0 1\nretain\nretain", 4, Problem::Expected(Keyword::Tables)),
-        ("case a\nset 1 0 0 1\nretain\ntables 1 1 1\nend", 5, Problem::Expected(Keyword::Tree)),
-        ("case a\nset 1 0 0 1\nretain\ntables 1 1 1\ntree\nend", 6, Problem::Expected(Keyword::Calls)),
-        ("case a\nset 1 0 0 1\nretain\ntables 1 1 1\ntree\ncalls\ncalls", 7, Problem::Expected(Keyword::End)),
+        (
+            "case a\nset 1 0 0 1\ntables 1 1 1",
+            3,
+            Problem::Expected(Keyword::Retain),
+        ),
+        (
+            "case a\nset 1 0 0 1\nretain\nretain",
+            4,
+            Problem::Expected(Keyword::Tables),
+        ),
+        (
+            "case a\nset 1 0 0 1\nretain\ntables 1 1 1\nend",
+            5,
+            Problem::Expected(Keyword::Tree),
+        ),
+        (
+            "case a\nset 1 0 0 1\nretain\ntables 1 1 1\ntree\nend",
+            6,
+            Problem::Expected(Keyword::Calls),
+        ),
+        (
+            "case a\nset 1 0 0 1\nretain\ntables 1 1 1\ntree\ncalls\ncalls",
+            7,
+            Problem::Expected(Keyword::End),
+        ),
         ("case", 1, Problem::WrongCount),
         ("case a b", 1, Problem::WrongCount),
         ("case \u{e9}", 1, Problem::NotText),
@@ -67,12 +95,36 @@ mod tests {
         ("case a\nset 1 0 2 1", 2, Problem::NotASetting),
         ("case a\nset 1 0 0 x", 2, Problem::NotANumber),
         ("case a\nset 1 0 0 1\nretain +1", 3, Problem::NotANumber),
-        ("case a\nset 1 0 0 1\nretain 4294967296", 3, Problem::TooLarge),
-        ("case a\nset 1 0 0 1\nretain\ntables 1 1", 4, Problem::WrongCount),
-        ("case a\nset 1 0 0 1\nretain\ntables 1 1 1\ntree 1\t2", 5, Problem::NotANumber),
-        ("case a\nset 1 0 0 1\nretain\ntables 1 1 1\ntree\ncalls walk", 6, Problem::UnknownCall),
-        ("case a\nset 1 0 0 1\nretain\ntables 1 1 1\ntree\ncalls\nend now", 7, Problem::WrongCount),
-        ("case a\nset 1 0 0 1\nretain\ntables 1 1 1\ntree\ncalls", 6, Problem::EndMissing),
+        (
+            "case a\nset 1 0 0 1\nretain 4294967296",
+            3,
+            Problem::TooLarge,
+        ),
+        (
+            "case a\nset 1 0 0 1\nretain\ntables 1 1",
+            4,
+            Problem::WrongCount,
+        ),
+        (
+            "case a\nset 1 0 0 1\nretain\ntables 1 1 1\ntree 1\t2",
+            5,
+            Problem::NotANumber,
+        ),
+        (
+            "case a\nset 1 0 0 1\nretain\ntables 1 1 1\ntree\ncalls walk",
+            6,
+            Problem::UnknownCall,
+        ),
+        (
+            "case a\nset 1 0 0 1\nretain\ntables 1 1 1\ntree\ncalls\nend now",
+            7,
+            Problem::WrongCount,
+        ),
+        (
+            "case a\nset 1 0 0 1\nretain\ntables 1 1 1\ntree\ncalls",
+            6,
+            Problem::EndMissing,
+        ),
         ("case a\n# c\n", 2, Problem::EndMissing),
     ];
 
@@ -87,7 +139,13 @@ mod tests {
     #[test]
     fn faults_have_their_lines(rt: LibcRuntime) -> Result<(), Fail> {
         for (text, line, problem) in &FAULTS {
-            check_eq(fault_of(rt.alloc(), text), Some(TextFault { line: *line, problem: *problem }))?;
+            check_eq(
+                fault_of(rt.alloc(), text),
+                Some(TextFault {
+                    line: *line,
+                    problem: *problem,
+                }),
+            )?;
         }
         Ok(())
     }
@@ -100,7 +158,10 @@ mod tests {
 
     #[test]
     fn a_fault_is_a_sentence(rt: LibcRuntime) -> Result<(), Fail> {
-        let fault = TextFault { line: 3, problem: Problem::Expected(Keyword::Tree) };
+        let fault = TextFault {
+            line: 3,
+            problem: Problem::Expected(Keyword::Tree),
+        };
         let said = format!(rt.alloc(), "{fault}")?;
         check(said.as_str() == "line 3: a line beginning with tree is due here")
     }

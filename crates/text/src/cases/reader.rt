@@ -18,9 +18,9 @@ ghost use Rattle.text.specs.Lines.{name-of, settings-of, lengths-of, calls-of}
 ghost use Rattle.text.specs.Place.{left-of, said-of};
 ghost use Rattle.text.specs.Reader.{left, skipped, pass-over-from, rest-of, numbered, due-line, read-line, nothing-of, said, next-said};
 use super::Cases;
-use crate::case::Case;
 use crate::case::Call;
 use crate::case::CallFromWord;
+use crate::case::Case;
 use crate::case::Settings;
 use crate::case::TableLengths;
 use crate::case::read_lengths;
@@ -37,6 +37,7 @@ use crate::words::spells;
 use std::alloc::Global;
 
 const LINE_FEED: u8 = b'\n';
+
 const COMMENT: u8 = b'#';
 
 // Whether a line says nothing: a comment, and between cases an empty line.
@@ -80,7 +81,11 @@ fn behind_keyword(due: Keyword, line: &[u8]) -> Result<&[u8], Problem>
 fn read_nothing(rest: &[u8]) -> Result<(), Problem>
     ensures { λ r. ⌜ Gives (nothing-of (now (rest .entry))) (λ v. v) r ⌝ }
 {
-    if rest.is_empty() { Ok(()) } else { Err(Problem::WrongCount) }
+    if rest.is_empty() {
+        Ok(())
+    } else {
+        Err(Problem::WrongCount)
+    }
 }
 
 impl<'a> Cases<'a> {
@@ -88,7 +93,10 @@ impl<'a> Cases<'a> {
     pub fn new(text: &'a [u8]) -> Cases<'a>
         ensures { λ r. ⌜ left-of r ≡ left (now (text .entry)) 0 ⌝ }
     {
-        Cases { rest: text, line: 0 }
+        Cases {
+            rest: text,
+            line: 0,
+        }
     }
 
     // Passes over the lines that say nothing.
@@ -105,13 +113,23 @@ impl<'a> Cases<'a> {
         }
     }
 
+    // A problem with the last line that was read.
+    fn fault(&self, problem: Problem) -> TextFault
+        ensures { λ r. ⌜ r ≡ record { line = now (self .entry) .line; problem = problem } ⌝ }
+    {
+        TextFault {
+            line: self.line,
+            problem,
+        }
+    }
+
     // What was read of the last line, or the problem with that line.
     fn here<T>(&self, read: Result<T, Problem>) -> Result<T, TextFault>
         ensures { λ r. ⌜ r ≡ numbered (now (self .entry) .line) read ⌝ }
     {
         match read {
             Ok(value) => Ok(value),
-            Err(problem) => Err(TextFault { line: self.line, problem }),
+            Err(problem) => Err(self.fault(problem)),
         }
     }
 
@@ -121,7 +139,7 @@ impl<'a> Cases<'a> {
     {
         self.pass_over(false);
         if self.rest.is_empty() {
-            return Err(TextFault { line: self.line, problem: Problem::EndMissing });
+            return Err(self.fault(Problem::EndMissing));
         }
         let (line, after) = cut(self.rest, LINE_FEED);
         self.rest = after;
@@ -188,7 +206,14 @@ impl<'a> Cases<'a> {
         let tree = self.numbers(heap, Keyword::Tree)?;
         let calls = self.calls(heap)?;
         self.finish()?;
-        Ok(Case { name, settings, retain, tables, tree, calls })
+        Ok(Case {
+            name,
+            settings,
+            retain,
+            tables,
+            tree,
+            calls,
+        })
     }
 
     /// Reads the next case, if there is one; or says what is wrong with the first line that is not as it should be.

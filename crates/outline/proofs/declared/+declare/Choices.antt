@@ -13,8 +13,8 @@ abbrev pub μ-declare : given.MeasureT-declare
 
 abbrev pub Inv-loop-number : given.InvT-loop-number
 Inv-loop-number l =
-  (l .number-iterator .words .now ≡ l .words)
-  × Whole (l .words) (l .number-iterator .at)
-  × (depth (treeOf (l .words) (l .number-iterator .at)) ≤ depth (treeOf (l .words) (l .first)))
-  × (vec-items (l .found) ++ names-of (declaring (under-of (l .under)) (treeOf (l .words) (l .number-iterator .at)))
+    (l .number-iterator .words .now ≡ l .words)
+    × Whole (l .words) (l .number-iterator .at)
+    × (depth (treeOf (l .words) (l .number-iterator .at)) ≤ depth (treeOf (l .words) (l .first)))
+    × (vec-items (l .found) ++ names-of (declaring (under-of (l .under)) (treeOf (l .words) (l .number-iterator .at)))
     ≡ vec-items (l .entry .found) ++ names-of (declaring (under-of (l .under)) (treeOf (l .words) (l .entry .number-iterator .at))))

@@ -12,8 +12,8 @@ abbrev pub μ-outline : given.MeasureT-outline
 
 abbrev pub Inv-loop-number : given.InvT-loop-number
 Inv-loop-number l =
-  (l .number-iterator .words .now ≡ l .words)
-  × Whole (l .words) (l .number-iterator .at)
-  × (depth (treeOf (l .words) (l .number-iterator .at)) + l .nesting ≤ 129)
-  × (lines-of (vec-items (l .lines)) ++ outlined (l .nesting) (treeOf (l .words) (l .number-iterator .at))
+    (l .number-iterator .words .now ≡ l .words)
+    × Whole (l .words) (l .number-iterator .at)
+    × (depth (treeOf (l .words) (l .number-iterator .at)) + l .nesting ≤ 129)
+    × (lines-of (vec-items (l .lines)) ++ outlined (l .nesting) (treeOf (l .words) (l .number-iterator .at))
     ≡ lines-of (vec-items (l .entry .lines)) ++ outlined (l .nesting) (treeOf (l .words) (l .entry .number-iterator .at)))

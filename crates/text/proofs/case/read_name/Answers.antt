@@ -10,18 +10,18 @@ use Rattle.text.proofs.case.read_name.Needs as need
 
 pub returns-then-not-is-ascii : need.returns-then-not-is-ascii
 returns-then-not-is-ascii c =
-  let large = c .if-not-is-ascii .ensures tt .cases in
-  inr (name-not-text (c .args .rest .now)
+    let large = c .if-not-is-ascii .ensures tt .cases in
+    inr (name-not-text (c .args .rest .now)
     (one-word-so (c .args .rest .now) (c .cut .result .0 .now) (c .cut .ensures .front) (false-eqb _ 0 (c .if-is-empty .ensures tt)) (c .if-word-rest .left))
     (not-ascii-so (c .args .rest .now) (large .0) (large .1)))
 
 pub returns : need.returns
 returns c =
-  name-good (c .args .rest .now)
+    name-good (c .args .rest .now)
     (one-word-so (c .args .rest .now) (c .cut .result .0 .now) (c .cut .ensures .front) (false-eqb _ 0 (c .if-is-empty .ensures tt)) (c .if-word-rest .left))
     (ascii-so (c .args .rest .now) (c .if-not-is-ascii .ensures tt .cases))
-  ∙ sym (ap Ok (c .in-Continue-from-str .ensures tt .made ∙ c .in-Ok .ensures tt .cases .0))
+    ∙ sym (ap Ok (c .in-Continue-from-str .ensures tt .made ∙ c .in-Ok .ensures tt .cases .0))
 
 pub unreachable-requires : need.unreachable-requires
 unreachable-requires c κs =
-  absurd (c .in-Err .ensures tt .cases .0 (utf8-from-ascii (c .args .rest .now) (c .if-not-is-ascii .ensures tt .cases)))
+    absurd (c .in-Err .ensures tt .cases .0 (utf8-from-ascii (c .args .rest .now) (c .if-not-is-ascii .ensures tt .cases)))
