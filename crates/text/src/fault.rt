@@ -53,7 +53,7 @@ pub enum Problem {
     NotASetting,
     /// A call is none of begin, pass, reset and repeat.
     UnknownCall,
-    /// A name is not written in UTF-8.
+    /// A name has a byte that is not ASCII.
     NotText,
     /// The text ended before the case did.
     EndMissing,
@@ -102,7 +102,7 @@ pub impl fmt::Display for Problem as ProblemDisplay {
             Problem::WrongCount => f.write_str("the line has too few or too many words"),
             Problem::NotASetting => f.write_str("a setting is neither 0 nor 1"),
             Problem::UnknownCall => f.write_str("a call is none of begin, pass, reset and repeat"),
-            Problem::NotText => f.write_str("the name is not written in UTF-8"),
+            Problem::NotText => f.write_str("the name has a byte that is not ASCII"),
             Problem::EndMissing => f.write_str("the text ends inside a case"),
             Problem::Memory => f.write_str("there is no memory left"),
         }
