@@ -21,8 +21,8 @@ use Rattle.rules.specs.Removal.{By, Place, Left, Verdict, place-inside, entered
 use Rattle.rules.specs.Removal.Verdict.{stays, sweeps, empties, unlinks, restates, yields, unwraps}
 use Rattle.laws.specs.KeepsTree.{Fewer-reached, Lost-reached}
 use Rattle.laws.proofs.KeepsWays.{formed-filled}
-use Rattle.laws.proofs.KeepsMeans.{Means, means, Emptied}
-use Rattle.laws.proofs.KeepsMeans.Emptied.{fn, class, importing, var}
+use Rattle.laws.proofs.Verdicts.{Means, means, Emptying}
+use Rattle.laws.proofs.Verdicts.Emptying.{fn, class, imports, var}
 
 reached-append : (c d : Chain) → reached (append c d) ≡ reached c + reached d
 reached-append end d = omega arith
@@ -89,10 +89,10 @@ children-filled : (h : Head) (c : Chain) → may-end (children-of h) ≡ false �
 children-filled h c e f = filled-reached c (formed-filled (children-of h) c e f)
 
 -- a record that becomes Empty has a child
-emptied-filled : (p : Place) (h : Head) (found children : Chain) → Formed (children-of h) found → Emptied p h found children → 1 ≤ reached found
+emptied-filled : (p : Place) (h : Head) (found children : Chain) → Formed (children-of h) found → Emptying p h found children → 1 ≤ reached found
 emptied-filled p h found children f (fn k x) = children-filled h found (rw k) f
 emptied-filled p h found children f (class k x) = children-filled h found (rw k) f
-emptied-filled p h found children f (importing k x) = filled-reached found x
+emptied-filled p h found children f (imports k x) = filled-reached found x
 emptied-filled p h found children f (var k x) = children-filled h found (rw k) f
 
 -- no more are left, in any chain
@@ -127,7 +127,7 @@ module _ (by : By) (p : Place) (h : Head) (children : Chain) (formed : Formed (c
     reached (done v h inner .chain) < 1 + reached children
   done-lost stays m g = omega (arith, lost g)
   done-lost sweeps m g = omega (arith, lost g, reached-swept (inner .chain))
-  done-lost (empties names) m g = omega (arith, emptied-filled p h children (inner .chain) formed m)
+  done-lost (empties names) m g = omega (arith, emptied-filled p h children (inner .chain) formed (m .which))
   done-lost (unlinks name) m g = omega arith
   done-lost restates m g = omega (arith, reached-restated by p (flagged h) (inner .chain) (m .filled) (m .go))
   done-lost (yields name) m g = omega (arith, reached-alone (after (inner .chain)), reached-after (inner .chain))

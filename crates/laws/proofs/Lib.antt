@@ -1,4 +1,5 @@
-pub mod KeepsMeans
+pub mod Formed
+pub mod Verdicts
 pub mod KeepsCount
 pub mod KeepsLevel
 pub mod KeepsReached
@@ -33,11 +34,6 @@ pub mod AlikeFilling
 pub mod AlikeStates
 pub mod AlikeRuns
 pub mod OrderSample
-pub mod Verdicts
-pub mod SoundTrees
-pub mod SoundKept
-pub mod Shrinks
-pub mod SoundChecked
 pub mod Listed
 pub mod Exported
 pub mod Refers

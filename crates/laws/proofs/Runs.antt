@@ -1,5 +1,5 @@
--- Runs: what is common to all that holds of every list of calls. A state is ready if its tree is refused by a numbered refusal, or sound
--- and rooted; a shaker begun on any words is, and each pass leaves it so.
+-- Runs: what is common to all that holds of every list of calls. A state is ready if its tree is refused by a numbered refusal, or formed
+-- by the table of kinds; a shaker begun on any words is, and each pass leaves it so.
 --
 --   Later                         removals one after another
 --   Ready, begun-ready            the trees of states
@@ -16,6 +16,8 @@ use Rattle.rules.specs.Tree.Chain.{end, link}
 use Rattle.rules.specs.Refusals.{Outcome}
 use Rattle.rules.specs.Refusals.Outcome.{fine, refused}
 use Rattle.rules.specs.Check.{check}
+use Rattle.rules.specs.Grammar.{root}
+use Rattle.rules.specs.Held.{Formed}
 use Rattle.rules.specs.Counting.{events-of}
 use Rattle.rules.specs.Tables.{Room, room, fill, no-rows, read-declared}
 use Rattle.rules.specs.Removal.{Config, By, Place, Left, Verdict, at-root, place-inside, entered, has-list, swept, verdict, done, treated, treat}
@@ -23,10 +25,9 @@ use Rattle.rules.specs.Removal.Verdict.{sweeps}
 use Rattle.rules.specs.Calls.{State, Handed, Filled, Pass, After, Call, Answer, handed-fit, cleared, filled-up, fill-declared, fill-tables, pass-by, passed, pass-filled, pass-checked, pass-once, passes-from, reached-by, call-fitting, unfit-answer, call, calls}
 use Rattle.rules.specs.Calls.Call.{pass, reset, repeat}
 use Rattle.rules.specs.Law.{In, begun-on}
+use Rattle.rules.proofs.Sounds.{check-sound}
 use Rattle.rules.proofs.Fuel.{then-fine}
-use Rattle.laws.proofs.SoundTrees.{Sound, by-list, treated-both}
-use Rattle.laws.proofs.SoundKept.{treat-sound}
-use Rattle.laws.proofs.SoundChecked.{Rooted, check-sound-tree}
+use Rattle.laws.proofs.KeepsFormed.{keeps-formed}
 use Rattle.laws.proofs.Fills.{fine-eq}
 use Rattle.laws.proofs.Numbered.{Numbered, numbered-check, numbered-tables}
 
@@ -39,35 +40,18 @@ pub later-then : {c d e : Chain} → Later c d → Later d e → Later c e
 later-then here m = m
 later-then (onward by c l) m = onward by c (later-then l m)
 
--- ROOTS
-
-list-verdict : (by : By) (p : Place) (h : Head) (found children : Chain) → has-list h ≡ true → verdict by p h found children ≡ sweeps
-list-verdict by p h found children g = by-list (λ (h : Head). verdict by p h found children ≡ sweeps) h g refl refl refl
-
-done-list : (h : Head) (inner : Left) (v : Verdict) → v ≡ sweeps → (children : Chain) × (done v h inner .chain ≡ link h children end)
-done-list h inner v e = (swept (inner .chain), subst (λ (w : Verdict). done w h inner .chain ≡ link h (swept (inner .chain)) end) (sym e) refl)
-
-pub treat-rooted : (by : By) (p : Place) (c : Chain) → Rooted c → Rooted (treat by p c .chain)
-treat-rooted by p end g = absurd g
-treat-rooted by p (link h cs rest) g =
-  let inner = treat by (place-inside p h) cs in
-  let s : (d : Chain) × (treated (entered p h cs (isEnd rest)) by p h cs inner .chain ≡ link h d end)
-        = treated-both (entered p h cs (isEnd rest)) by p h cs inner (λ (l : Left). (d : Chain) × (l .chain ≡ link h d end))
-            (λ _. done-list h inner (verdict by p h cs (inner .chain)) (list-verdict by p h cs (inner .chain) g)) (λ _. (cs, refl)) in
-  subst (λ (c : Chain). Rooted (append c (treat by p rest .chain))) (sym (s .1)) g
-
 -- STATES
 
 -- a tree that calls go on with
 abbrev pub Ready : Outcome Chain → Type 0
-Ready (fine c) = Sound 0 c × Rooted c
+Ready (fine c) = Formed root c
 Ready (refused number at) = 1 ≤ number
 
 pub begun-ready : (words : Handed) → Ready (begun-on words .tree)
 begun-ready words = by-outcome (check (words .tree)) refl
   where
     by-outcome : (o : Outcome Chain) → check (words .tree) ≡ o → Ready o
-    by-outcome (fine c) e = check-sound-tree (words .tree) c e
+    by-outcome (fine c) e = check-sound (words .tree) c e .formed
     by-outcome (refused number at) e = subst (λ (o : Outcome Chain). Numbered o) e (numbered-check (words .tree))
 
 -- a completed pass has filled its tables from the tree that it found
@@ -99,8 +83,7 @@ pass-result k s r = checked-result k s (s .tree) refl r
 pub result-ready : (k : Config) (s : State) → Ready (s .tree) → (one : After (Outcome Bool)) → Result k s one → Ready (one .state .tree)
 result-ready k s r one (not-made number at left n e) = subst Ready (sym e) r
 result-ready k s r one (one-made p e f) =
-  let q : Ready (fine (p .found)) = subst Ready e r in
-  (treat-sound (pass-by k (p .filled)) at-root 0 (p .found) (q .0), treat-rooted (pass-by k (p .filled)) at-root (p .found) (q .1))
+  keeps-formed (pass-by k (p .filled)) (p .found) (subst Ready e r)
 
 -- TURNS
 
