@@ -19,6 +19,7 @@ use Rattle.rules.proofs.Leading.{component-told}
 use Rattle.laws.proofs.OrderNames.{bool-eq}
 use Rattle.laws.proofs.OrderTables.{some-name, some-entry}
 use Rattle.laws.proofs.OrderEdges.{edge-eq, some-edge, weights}
+use Rattle.laws.proofs.RingsDiscount.{look-discount}
 use Rattle.laws.proofs.AlikeTables.{Alike}
 
 -- the test of an edge's two names
@@ -83,17 +84,6 @@ less-by t es r = record {
   assign = minus (r .assign) (weights true (λ a b. same b (r .name) && (not (same a (r .name)) && t a)) es);
   entry = r .entry;
   counted = r .counted }
-
--- a discounted row keeps its name
-name-kept : (c : Counts) (r : NameRow) → discount-row c r .name ≡ r .name
-name-kept c r = elim (closed c (r .name)) as (λ b. (if b then less (component (c .edges) (r .name)) (c .edges) r else r) .name ≡ r .name) [ true ↦ refl | false ↦ refl ]
-
-look-discount : (c : Counts) (n : Name) (rs : List NameRow) → look n (discount-rows c rs) ≡ (if some-name (same n) rs then discount-row c (look n rs) else fresh n)
-look-discount c n [] = refl
-look-discount c n (r ∷ rs) =
-  ap (λ (m : Name). if same n m then discount-row c r else look n (discount-rows c rs)) (name-kept c r)
-  ∙ elim (same n (r .name)) as (λ b. cond b (discount-row c r) (look n (discount-rows c rs)) ≡ cond (b || some-name (same n) rs) (discount-row c (cond b r (look n rs))) (fresh n))
-    [ true ↦ refl | false ↦ look-discount c n rs ]
 
 module _ (c d : Counts) (k : Alike c d) where
   ring-alike : (n m : Name) → among m (component (c .edges) n) ≡ among m (component (d .edges) n)

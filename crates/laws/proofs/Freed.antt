@@ -25,8 +25,11 @@ use Rattle.rules.specs.Removal.Verdict.{stays, sweeps, empties, unlinks, restat
 use Rattle.rules.specs.Law.{In, Reference}
 use Rattle.laws.proofs.Listed.{in-append}
 use Rattle.laws.proofs.Verdicts.{Unused, Means, means, can-unused}
-use Rattle.laws.proofs.Graphs.{event-row, event-edge}
-use Rattle.laws.proofs.ClosedRings.{closed-edge, closed-entry, open-row}
+use Rattle.laws.proofs.OrderTables.{filled}
+use Rattle.laws.proofs.TablesTold.{event-row, event-edge}
+use Rattle.laws.proofs.OrderEdges.{some-edge}
+use Rattle.laws.proofs.RingsDiscount.{open-row}
+use Rattle.laws.proofs.ClosedRings.{closed-edge, closed-entry}
 
 -- ROWS
 
@@ -45,23 +48,27 @@ pub record Within (c : Counts) (e : Event) : Type 0 where
   pub held : unheld (e .holders) ≡ false
   pub shares : (m : Name) → In m (e .holders) → among m (component (c .edges) (e .name)) ≡ true
 
-module _ (space : Room) (es : List Event) (c : Counts) (full : fill space es no-rows ≡ fine c) (e : Event) (r : Reference e) (x : In e es) where
+module _ (es : List Event) (e : Event) (r : Reference e) (x : In e es) where
+  -- the tables that the events fill
+  abbrev c : Counts
+  c = filled es no-rows
+
   closed-within : closed c (e .name) ≡ true → Within c e
   closed-within g = record {
     ring = g;
     held = ⊎-elim
-      (λ u. absurd (closed-entry c (e .name) g (event-row (λ (s : NameRow). s .entry ≡ true) (λ v s y. or-left (s .entry) (v .entry) y) e (λ s. or-right (s .entry) (e .entry) (r ∙ u)) space es no-rows c full x)))
+      (λ u. absurd (closed-entry c (e .name) g (event-row (λ (s : NameRow). s .entry ≡ true) (λ v s y. or-left (s .entry) (v .entry) y) e (λ s. or-right (s .entry) (e .entry) (r ∙ u)) es no-rows x)))
       (λ u. u) (cases-bool (unheld (e .holders)));
-    shares = λ m h. closed-edge c m (e .name) g (event-edge e m h space es no-rows c full x) }
+    shares = λ m h. closed-edge c m (e .name) g (λ p y. event-edge p e m h y es no-rows x) }
 
   is-counted : look (e .name) (c .names) .counted ≡ true
-  is-counted = event-row (λ (s : NameRow). s .counted ≡ true) (λ v s y. refl) e (λ s. refl) space es no-rows c full x
+  is-counted = event-row (λ (s : NameRow). s .counted ≡ true) (λ v s y. refl) e (λ s. refl) es no-rows x
 
   is-read : e .writes ≡ false → 1 ≤ look (e .name) (c .names) .usage
-  is-read w = event-row (λ (s : NameRow). 1 ≤ s .usage) (λ v s y. omega arith) e (λ s. rw w (omega arith)) space es no-rows c full x
+  is-read w = event-row (λ (s : NameRow). 1 ≤ s .usage) (λ v s y. omega arith) e (λ s. rw w (omega arith)) es no-rows x
 
   is-written : e .writes ≡ true → 1 ≤ look (e .name) (c .names) .assign
-  is-written w = event-row (λ (s : NameRow). 1 ≤ s .assign) (λ v s y. omega arith) e (λ s. rw w (omega arith)) space es no-rows c full x
+  is-written w = event-row (λ (s : NameRow). 1 ≤ s .assign) (λ v s y. omega arith) e (λ s. rw w (omega arith)) es no-rows x
 
   pub unused-within : unused (look (e .name) (discount c)) ≡ true → Within c e
   unused-within h = ⊎-elim closed-within

@@ -15,6 +15,9 @@ pub mod Shuffles
 pub mod OrderRows
 pub mod OrderTables
 pub mod OrderEdges
+pub mod Listed
+pub mod TablesTold
+pub mod RingsDiscount
 pub mod AlikeTables
 pub mod AlikeRings
 pub mod OrderSizes
@@ -34,16 +37,12 @@ pub mod AlikeFilling
 pub mod AlikeStates
 pub mod AlikeRuns
 pub mod OrderSample
-pub mod Listed
 pub mod Exported
 pub mod Refers
 pub mod Unwraps
 pub mod RefersKept
 pub mod Tallied
 pub mod Insides
-pub mod Looks
-pub mod Fills
-pub mod Graphs
 pub mod ClosedRings
 pub mod Freed
 pub mod Numbered

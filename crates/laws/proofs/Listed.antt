@@ -1,4 +1,9 @@
 -- Members of lists: of one list after another.
+use Prim.Native.Nat.{ℕ}
+use native.Mathlib.Omega.{arith}
+use mathlib.Core.Path.{_≡_}
+use Rattle.rules.specs.Refusals.{Outcome}
+use Rattle.rules.specs.Refusals.Outcome.{fine, refused}
 use mathlib.Core.List.{List, [], _∷_, _++_}
 use mathlib.Core.Logic.{_⊎_, inl, inr, ⊎-elim}
 use Rattle.rules.specs.Law.{In}
@@ -14,3 +19,9 @@ in-left x (y ∷ xs) ys h = ⊎-elim (λ e. inl e) (λ k. inr (in-left x xs ys k
 pub in-right : {A : Type 0} (x : A) (xs ys : List A) → In x ys → In x (xs ++ ys)
 in-right x [] ys h = h
 in-right x (y ∷ xs) ys h = inr (in-right x xs ys h)
+
+pub fine-eq : {A : Type 0} (a b : A) → _≡_ {A = Outcome A} (fine a) (fine b) → a ≡ b
+fine-eq a b e = cc
+
+pub refused-fine : {A : Type 0} (number at : ℕ) (a : A) → _≡_ {A = Outcome A} (refused number at) (fine a) → ⊥
+refused-fine number at a e = let z : _≡_ {A = ℕ} 0 1 = cc in omega arith

@@ -12,7 +12,9 @@ use Rattle.rules.specs.Refusals.Outcome.{fine}
 use Rattle.rules.specs.Grammar.{root}
 use Rattle.rules.specs.Held.{Formed}
 use Rattle.rules.specs.Counting.{Event, unheld, outermost, events-of}
-use Rattle.rules.specs.Removal.{Config, at-root, taken, gave}
+use Rattle.rules.specs.Tables.{Counts, look}
+use Rattle.rules.specs.Rings.{discount}
+use Rattle.rules.specs.Removal.{Config, at-root, unused, never-read, taken, gave}
 use Rattle.rules.specs.Calls.{State, Pass, After, Call, Answer, cleared, pass-by, remove, passed, pass-once, passes-from, reached-by, call-fitting, call, calls, final, passes-made}
 use Rattle.rules.specs.Calls.Call.{pass, reset, repeat}
 use Rattle.rules.specs.Law.{In, Reference, Inside-ring, begun-on, tree-of}
@@ -52,11 +54,11 @@ made-references : (k : Config) (p : Pass) (left : Chain) → Made k p left → (
   → Inside-ring p left e
 made-references k p left m e x r y =
   let by = pass-by k (p .filled) in
-  let c = p .filled .counts in
+  let es = events-of (p .found) in
   let z = refers-count e (p .found) outermost (later-refers e (onward by (p .found) (m .later)) (m .formed) (count-refers e r left outermost x)) in
-  in-ring p left e r x (e .holders) refl (⊎-elim
-    (λ t. unused-within (m .full .space) (events-of (p .found)) c (m .full .is-full) e r z (taken-unused by (e .name) (p .found) at-root t))
-    (λ t. unread-within (m .full .space) (events-of (p .found)) c (m .full .is-full) e r z k (t .1) (gave-unread by (e .name) (p .found) at-root (t .0))) y)
+  in-ring p left e r x (e .holders) refl (subst (λ (c : Counts). Within c e) (sym (m .full)) (⊎-elim
+    (λ t. unused-within es e r z (subst (λ (c : Counts). unused (look (e .name) (discount c)) ≡ true) (m .full) (taken-unused by (e .name) (p .found) at-root t)))
+    (λ t. unread-within es e r z k (t .1) (subst (λ (c : Counts). never-read k (look (e .name) (discount c)) ≡ true) (m .full) (gave-unread by (e .name) (p .found) at-root (t .0)))) y))
 
 -- LISTS OF CALLS
 

@@ -16,15 +16,15 @@ use Rattle.rules.specs.Kinds.{fn-declaration, for-statement}
 use Rattle.rules.specs.Grammar.{Way, children-of, step, root}
 use Rattle.rules.specs.Held.{Formed}
 use Rattle.rules.specs.Counting.{Found, outermost, events-of}
-use Rattle.rules.specs.Tables.{NameRow, look}
+use Rattle.rules.specs.Tables.{NameRow, Counts, look}
 use Rattle.rules.specs.Rings.{discount}
 use Rattle.rules.specs.Removal.{Config, By, Place, Left, Verdict, at-root, permitted, retained, unused, place-inside, entered, has-list, swept, fn-goes, verdict, done, treated, treat}
 use Rattle.rules.specs.Removal.Verdict.{stays, sweeps, empties, unlinks, restates, yields, unwraps}
 use Rattle.rules.specs.Calls.{Pass, pass-by, remove}
 use Rattle.rules.specs.Law.{removable, Removable, Counted}
 use Rattle.laws.proofs.Verdicts.{Means, means, treated-both, by-list}
-use Rattle.laws.proofs.Graphs.{counted-only}
-use Rattle.laws.proofs.ClosedRings.{counted-row}
+use Rattle.laws.proofs.TablesTold.{counted-only}
+use Rattle.laws.proofs.RingsDiscount.{counted-row}
 use Rattle.laws.proofs.Runs.{Full}
 use Rattle.laws.proofs.Unchanged.{treat-same}
 
@@ -111,5 +111,5 @@ pass-used k p s f g n x =
   let by = pass-by k (p .filled) in
   let c = p .filled .counts in
   let u = used-counted (look n (discount c)) (treat-used by n at-root root (p .found) s g x) in
-  let found = counted-only n (f .space) (events-of (p .found)) c (f .is-full) (sym (counted-row c n) ∙ u) in
+  let found = counted-only n (events-of (p .found)) (subst (λ (t : Counts). look n (t .names) .counted ≡ true) f (sym (counted-row c n) ∙ u)) in
   subst (λ (t : Found). Counted n (t .events)) (sym (treat-same by at-root root (p .found) s g .counts outermost)) found

@@ -28,7 +28,9 @@ use Rattle.rules.specs.Law.{In, begun-on}
 use Rattle.rules.proofs.Sounds.{check-sound}
 use Rattle.rules.proofs.Fuel.{then-fine}
 use Rattle.laws.proofs.KeepsFormed.{keeps-formed}
-use Rattle.laws.proofs.Fills.{fine-eq}
+use Rattle.laws.proofs.Listed.{fine-eq}
+use Rattle.laws.proofs.OrderTables.{filled}
+use Rattle.laws.proofs.OrderRoom.{fill-filled}
 use Rattle.laws.proofs.Numbered.{Numbered, numbered-check, numbered-tables}
 
 -- removals one after another, each by tables of its own
@@ -55,9 +57,8 @@ begun-ready words = by-outcome (check (words .tree)) refl
     by-outcome (refused number at) e = subst (λ (o : Outcome Chain). Numbered o) e (numbered-check (words .tree))
 
 -- a completed pass has filled its tables from the tree that it found
-pub record Full (p : Pass) : Type 0 where
-  pub space : Room
-  pub is-full : fill space (events-of (p .found)) no-rows ≡ fine (p .filled .counts)
+abbrev pub Full : Pass → Type 0
+Full p = p .filled .counts ≡ filled (events-of (p .found)) no-rows
 
 -- a pass that was not made leaves the tree; one that was made leaves what its removal does
 pub data Result (k : Config) (s : State) : After (Outcome Bool) → Type 0 where
@@ -66,11 +67,11 @@ pub data Result (k : Config) (s : State) : After (Outcome Bool) → Type 0 where
 
 filled-result : (k : Config) (s : State) (tree : Chain) → s .tree ≡ fine tree → (space : Room) (held : List Name) (o : Outcome Filled) → fill-tables space tree held ≡ o → Result k s (pass-filled k s tree o)
 filled-result k s tree e space held (refused number at) g = not-made number at (filled-up s) (subst (λ (o : Outcome Filled). Numbered o) g (numbered-tables space tree held)) refl
-filled-result k s tree e space held (fine filled) g =
-  let t1 = then-fine (fill-declared space tree held) _ filled g in
-  let t2 = then-fine (fill space (events-of tree) no-rows) _ filled (t1 .2) in
-  one-made (record { found = tree; filled = filled }) e
-    (record { space = space; is-full = t2 .1 ∙ ap (λ (f : Filled). fine (f .counts)) (fine-eq (record { declared = t1 .0; counts = t2 .0 }) filled (t2 .2)) })
+filled-result k s tree e space held (fine rows) g =
+  let t1 = then-fine (fill-declared space tree held) _ rows g in
+  let t2 = then-fine (fill space (events-of tree) no-rows) _ rows (t1 .2) in
+  one-made (record { found = tree; filled = rows }) e
+    (ap (λ (f : Filled). f .counts) (sym (fine-eq (record { declared = t1 .0; counts = t2 .0 }) rows (t2 .2))) ∙ fill-filled space (events-of tree) (t2 .0) (t2 .1))
 
 checked-result : (k : Config) (s : State) (o : Outcome Chain) → s .tree ≡ o → Ready o → Result k s (pass-checked k s o)
 checked-result k s (refused number at) e r = not-made number at s r refl
