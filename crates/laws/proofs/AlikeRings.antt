@@ -16,7 +16,7 @@ use Rattle.rules.specs.Rings.{Edge, Leads, component, has-other, closed, minus,
 use Rattle.rules.specs.Rings.Leads.{here, onward}
 use Rattle.rules.proofs.SameNames.{same-eq, same-refl}
 use Rattle.rules.proofs.Leading.{component-told}
-use Rattle.laws.proofs.OrderNames.{bool-eq}
+use Rattle.laws.proofs.Basics.{bool-eq}
 use Rattle.laws.proofs.OrderTables.{some-name, some-entry}
 use Rattle.laws.proofs.OrderEdges.{edge-eq, some-edge, weights}
 use Rattle.laws.proofs.RingsDiscount.{look-discount}

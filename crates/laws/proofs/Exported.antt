@@ -19,7 +19,7 @@ use Rattle.rules.specs.Names.{binds, nests, keep, exported}
 use Rattle.rules.specs.Removal.{By, Place, Left, Verdict, place-inside, entered, swept, wrapped-object, verdict, done, treated, treat}
 use Rattle.rules.specs.Removal.Verdict.{stays, sweeps, empties, unlinks, restates, yields, unwraps}
 use Rattle.rules.specs.Law.{In}
-use Rattle.laws.proofs.Listed.{in-append, in-left, in-right}
+use Rattle.laws.proofs.Basics.{in-append, in-left, in-right, in-if, if-in}
 use Rattle.laws.proofs.Verdicts.{Means, means, treated-both, wraps}
 use Rattle.laws.proofs.Formed.{first-kind, assigned-value}
 use Rattle.laws.proofs.KeepsTable.{inner-ways}
@@ -46,13 +46,6 @@ in-keep g h false hs x = inr x
 keep-in : (g h : Head) (b : Bool) (hs : List Head) → ((b ≡ true) × (g ≡ h)) ⊎ In g hs → In g (keep b h hs)
 keep-in g h true hs x = ⊎-elim (λ y. inl (y .1)) (λ y. inr y) x
 keep-in g h false hs x = ⊎-elim (λ y. absurd (both-ways false refl (y .0))) (λ y. y) x
-
-in-if : (g : Head) (b : Bool) (hs : List Head) → In g (if b then hs else []) → (b ≡ true) × In g hs
-in-if g true hs x = (refl, x)
-in-if g false hs x = absurd x
-
-if-in : (g : Head) (b : Bool) (hs : List Head) → b ≡ true → In g hs → In g (if b then hs else [])
-if-in g b hs e x = rw e x
 
 pub in-exported : (g : Head) (c : Chain) → In g (exported c) → Exports g c
 in-exported g end x = x

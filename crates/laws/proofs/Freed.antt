@@ -23,7 +23,7 @@ use Rattle.rules.specs.Rings.{component, closed, discount}
 use Rattle.rules.specs.Removal.{Config, By, Place, Verdict, unused, never-read, can-drop-binding, name-goes, all-go, place-inside, entered, verdict, treat, declarator-names, takes, gives, taken, gave}
 use Rattle.rules.specs.Removal.Verdict.{stays, sweeps, empties, unlinks, restates, yields, unwraps}
 use Rattle.rules.specs.Law.{In, Reference}
-use Rattle.laws.proofs.Listed.{in-append}
+use Rattle.laws.proofs.Basics.{in-append, in-if}
 use Rattle.laws.proofs.Verdicts.{Unused, Means, means, can-unused}
 use Rattle.laws.proofs.OrderTables.{filled}
 use Rattle.laws.proofs.TablesTold.{event-row, event-edge}
@@ -115,11 +115,6 @@ gives-unread by p h found children n restates m x = absurd x
 gives-unread by p h found children n (yields k) m x = ⊎-elim (λ y. subst (λ (j : Name). never-read (by .config) ((by .row) j) ≡ true) (sym y) (m .free)) (λ y. absurd y) x
 gives-unread by p h found children n unwraps m x = absurd x
 
--- a name of a part that is there only under a test
-in-part : (n : Name) (b : Bool) (ns : List Name) → In n (if b then ns else []) → In n ns
-in-part n true ns x = x
-in-part n false ns x = absurd x
-
 pub taken-unused : (by : By) (n : Name) (c : Chain) (p : Place) → In n (taken by p c) → unused ((by .row) n) ≡ true
 taken-unused by n end p x = absurd x
 taken-unused by n (link h cs rest) p x =
@@ -128,7 +123,7 @@ taken-unused by n (link h cs rest) p x =
   let under = taken by (place-inside p h) cs in
   ⊎-elim
     (λ y. ⊎-elim (takes-unused by p h cs bs n (verdict by p h cs bs) (means by p h cs bs)) (taken-unused by n cs (place-inside p h))
-      (in-append n mine under (in-part n (entered p h cs (isEnd rest)) (mine ++ under) y)))
+      (in-append n mine under (in-if n (entered p h cs (isEnd rest)) (mine ++ under) y .1)))
     (taken-unused by n rest p)
     (in-append n (if entered p h cs (isEnd rest) then mine ++ under else []) (taken by p rest) x)
 
@@ -140,6 +135,6 @@ gave-unread by n (link h cs rest) p x =
   let under = gave by (place-inside p h) cs in
   ⊎-elim
     (λ y. ⊎-elim (gives-unread by p h cs bs n (verdict by p h cs bs) (means by p h cs bs)) (gave-unread by n cs (place-inside p h))
-      (in-append n mine under (in-part n (entered p h cs (isEnd rest)) (mine ++ under) y)))
+      (in-append n mine under (in-if n (entered p h cs (isEnd rest)) (mine ++ under) y .1)))
     (gave-unread by n rest p)
     (in-append n (if entered p h cs (isEnd rest) then mine ++ under else []) (gave by p rest) x)

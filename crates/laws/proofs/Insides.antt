@@ -13,7 +13,7 @@ use Rattle.rules.specs.Held.{Numbers}
 use Rattle.rules.specs.Counting.{Event, Found, Around, Role, refer, holders, put, nothing, reference, reading, writing, named-here, own, opens, inside, outermost, events-of}
 use Rattle.rules.specs.Counting.Role.{declared-here, written, read-and-written}
 use Rattle.rules.specs.Law.{In, Reference, Inside}
-use Rattle.laws.proofs.Listed.{in-append}
+use Rattle.laws.proofs.Basics.{in-append}
 use Rattle.laws.proofs.Exported.{Exports}
 use Rattle.laws.proofs.Refers.{Here, Refers}
 use Rattle.laws.proofs.Tallied.{count-refers}

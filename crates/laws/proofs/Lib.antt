@@ -1,3 +1,4 @@
+pub mod Basics
 pub mod Formed
 pub mod Verdicts
 pub mod KeepsCount
@@ -10,12 +11,10 @@ pub mod KeepsLists
 pub mod KeepsValues
 pub mod KeepsFormed
 pub mod KeepsChecked
-pub mod OrderNames
 pub mod Shuffles
 pub mod OrderRows
 pub mod OrderTables
 pub mod OrderEdges
-pub mod Listed
 pub mod TablesTold
 pub mod RingsDiscount
 pub mod AlikeTables

@@ -18,7 +18,7 @@ use Rattle.rules.specs.Counting.{Event, Found, outermost, events-of}
 use Rattle.rules.specs.Tables.{Counts, no-rows}
 use Rattle.rules.specs.Law.{Shuffled}
 use Rattle.rules.specs.Law.Shuffled.{none, past, swap, again}
-use Rattle.laws.proofs.OrderNames.{or-swap}
+use Rattle.laws.proofs.Basics.{or-swap}
 use Rattle.laws.proofs.Shuffles.{fold, fold-++, fold-swap}
 use Rattle.laws.proofs.OrderTables.{filled}
 use Rattle.laws.proofs.AlikeTables.{Alike, Exchanged, alike}

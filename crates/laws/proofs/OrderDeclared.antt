@@ -20,7 +20,7 @@ use Rattle.rules.specs.Grammar.{named}
 use Rattle.rules.specs.Names.{same, among, namesOf, binds, keep, Under, under, under-nothing, declares, declaring, declared}
 use Rattle.rules.specs.Tables.{some-row}
 use Rattle.rules.proofs.SameNames.{same-eq, same-refl}
-use Rattle.laws.proofs.OrderNames.{or-swap}
+use Rattle.laws.proofs.Basics.{or-swap}
 use Rattle.laws.proofs.OrderRows.{with-row, some-with-row}
 use Rattle.laws.proofs.OrderSizes.{Single, single-with-row, equal-sizes}
 use Rattle.laws.proofs.OrderRoom.{all-declared}

@@ -15,7 +15,7 @@ use Rattle.rules.specs.Counting.{Event}
 use Rattle.rules.specs.Tables.{EdgeRow, Counts, some-row, edge-of, reads, writes}
 use Rattle.rules.specs.Rings.{total}
 use Rattle.rules.proofs.SameNames.{same-eq, same-refl}
-use Rattle.laws.proofs.OrderNames.{or-swap, or-twice}
+use Rattle.laws.proofs.Basics.{or-swap, or-twice}
 use Rattle.laws.proofs.Shuffles.{Commutes}
 use Rattle.laws.proofs.OrderRows.{with-change, some-with-change, total-with-change}
 use Rattle.laws.proofs.OrderTables.{new-edge, adds-edge, held-by, all-held, entered}

@@ -15,7 +15,7 @@ use Rattle.rules.specs.Kinds.{module-root, script-root, empty-statement, block,
 use Rattle.rules.specs.Removal.{By, Place, Left, at-root, place-inside, asm, entered, swept, unchanged, both, treated, treat}
 use Rattle.rules.specs.Law.{Shuffled}
 use Rattle.rules.specs.Law.Shuffled.{none, past, swap, again}
-use Rattle.laws.proofs.OrderNames.{cond-ap, or-swap}
+use Rattle.laws.proofs.Basics.{cond-ap, or-swap}
 use Rattle.laws.proofs.Shuffles.{shuffled-after, exchange}
 use Rattle.laws.proofs.UnnumberedRemoval.{swept-unnumbered, treat-unnumbered}
 use Rattle.laws.proofs.OrderCount.{root-of}

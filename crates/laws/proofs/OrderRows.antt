@@ -15,7 +15,7 @@ use Rattle.std.proofs.shelf.Tests.{false≢true, cases-bool, cond-true, or-case
 use Rattle.rules.specs.Tree.{if_then_else_}
 use Rattle.rules.specs.Tables.{EdgeRow, some-row, change}
 use Rattle.rules.specs.Rings.{total}
-use Rattle.laws.proofs.OrderNames.{bool-eq, or-swap}
+use Rattle.laws.proofs.Basics.{bool-eq, or-swap}
 
 -- a row is there: it is, or it comes last
 abbrev pub with-row : {Row : Type 0} → (Row → Bool) → Row → List Row → List Row

@@ -19,7 +19,7 @@ use Rattle.rules.specs.Calls.{State, Pass, After, Call, Answer, cleared, pass-b
 use Rattle.rules.specs.Calls.Call.{pass, reset, repeat}
 use Rattle.rules.specs.Law.{In, Reference, Inside-ring, begun-on, tree-of}
 use Rattle.laws.specs.ReferencesLaw.{References-law}
-use Rattle.laws.proofs.Listed.{in-append}
+use Rattle.laws.proofs.Basics.{in-append}
 use Rattle.laws.proofs.KeepsFormed.{keeps-formed}
 use Rattle.laws.proofs.Refers.{Refers}
 use Rattle.laws.proofs.RefersKept.{treat-refers}

@@ -25,7 +25,7 @@ use Rattle.rules.specs.Calls.Answer.{repeat-answer}
 use Rattle.rules.specs.Calls.Repeated.{repeated, stopped}
 use Rattle.rules.specs.Law.{begun-on, tree-of, Removable, Counted, Repeat-kept}
 use Rattle.laws.specs.RepeatsLaw.{Repeats-law, Bound-never-ends}
-use Rattle.laws.proofs.Listed.{refused-fine}
+use Rattle.laws.proofs.Basics.{refused-fine}
 use Rattle.laws.proofs.Numbered.{Numbered}
 use Rattle.laws.proofs.KeepsReached.{lost-reached}
 use Rattle.laws.proofs.Removables.{pass-used}

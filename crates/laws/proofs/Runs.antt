@@ -28,7 +28,7 @@ use Rattle.rules.specs.Law.{In, begun-on}
 use Rattle.rules.proofs.Sounds.{check-sound}
 use Rattle.rules.proofs.Fuel.{then-fine}
 use Rattle.laws.proofs.KeepsFormed.{keeps-formed}
-use Rattle.laws.proofs.Listed.{fine-eq}
+use Rattle.laws.proofs.Basics.{fine-eq, elim-both}
 use Rattle.laws.proofs.OrderTables.{filled}
 use Rattle.laws.proofs.OrderRoom.{fill-filled}
 use Rattle.laws.proofs.Numbered.{Numbered, numbered-check, numbered-tables}
@@ -97,10 +97,6 @@ turn one more = elim (one .answer) [
         record { answer = next .answer; state = next .state; made = one .made ++ next .made })
     | false ↦ one ] ]
 
-by-changed : (P : After (Outcome Bool) → Type 0) (b : Bool) (x y : After (Outcome Bool)) → (b ≡ true → P x) → (b ≡ false → P y) → P (elim b [ true ↦ x | false ↦ y ])
-by-changed P true x y f g = f refl
-by-changed P false x y f g = g refl
-
 -- a turn: no pass, a pass that changed something and what comes after it, or a pass that changed nothing
 pub turn-cases : (k : Config) (s : State) (P : After (Outcome Bool) → Type 0) (more : State → After (Outcome Bool))
   → ((number at : ℕ) (left : State) → 1 ≤ number → left .tree ≡ s .tree → P (record { answer = refused number at; state = left; made = [] }))
@@ -112,18 +108,14 @@ pub turn-cases : (k : Config) (s : State) (P : After (Outcome Bool) → Type 0) 
 turn-cases k s P more f g h one (not-made number at left n e) = f number at left n e
 turn-cases k s P more f g h one (one-made p e full) =
   let next = more (cleared (passed k s p)) in
-  by-changed P (passed k s p .changed) (record { answer = next .answer; state = next .state; made = p ∷ next .made })
+  elim-both P (passed k s p .changed) (record { answer = next .answer; state = next .state; made = p ∷ next .made })
     (record { answer = fine (passed k s p .changed); state = passed k s p; made = p ∷ [] }) (g p e full) (h p e full)
 
 -- CALLS
 
-by-fit : (P : After Answer → Type 0) (b : Bool) (x y : After Answer) → P x → P y → P (elim b [ true ↦ x | false ↦ y ])
-by-fit P true x y f g = f
-by-fit P false x y f g = g
-
 -- a call on words that fit, or one that leaves everything
 pub call-cases : (k : Config) (c : Call) (s : State) (P : After Answer → Type 0) → P (call-fitting k c s) → P (record { answer = unfit-answer c; state = s; made = [] }) → P (call k c s)
-call-cases k c s P f g = by-fit P (handed-fit k s) (call-fitting k c s) (record { answer = unfit-answer c; state = s; made = [] }) f g
+call-cases k c s P f g = elim-both P (handed-fit k s) _ _ (λ _. f) (λ _. g)
 
 from-ready : (k : Config) (left : ℕ) (s : State) → Ready (s .tree) → Ready (passes-from k left s .state .tree)
 from-ready k zero s r = r

@@ -17,7 +17,7 @@ use Rattle.rules.specs.Names.{among, namesOf, distinct, binds, nests, keep, bou
 use Rattle.rules.specs.Counting.{Event, Found, Around, Role, _followed-by_, holders, refer, marked, marks, reference, reading, readings, named-here, calls-eval, own, opens, leave, inside, count}
 use Rattle.rules.specs.Counting.Role.{declared-here, written, read-and-written}
 use Rattle.rules.specs.Tables.{Counts}
-use Rattle.laws.proofs.OrderNames.{cond-ap}
+use Rattle.laws.proofs.Basics.{cond-ap}
 use Rattle.laws.proofs.OrderTables.{entered, filled}
 
 abbrev pub unnumbered-heads : List Head → List Head
