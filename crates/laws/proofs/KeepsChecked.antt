@@ -22,7 +22,7 @@ use Rattle.laws.proofs.Verdicts.{Means, means, Emptying, Unlinking}
 use Rattle.laws.proofs.Verdicts.Emptying.{fn, class, imports, var}
 use Rattle.laws.proofs.Verdicts.Unlinking.{declares, specifies}
 use Rattle.laws.proofs.Formed.{formed-one}
-use Rattle.laws.proofs.KeepsCount.{keeps-apart}
+use Rattle.laws.proofs.KeepsApart.{keeps-apart}
 use Rattle.laws.proofs.KeepsLevel.{keeps-level}
 use Rattle.laws.proofs.KeepsFormed.{keeps-formed}
 

@@ -1,7 +1,8 @@
 pub mod Basics
 pub mod Formed
 pub mod Verdicts
-pub mod KeepsCount
+pub mod KeepsMeasure
+pub mod KeepsApart
 pub mod KeepsLevel
 pub mod KeepsReached
 pub mod KeepsWays
