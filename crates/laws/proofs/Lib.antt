@@ -3,6 +3,7 @@ pub mod Formed
 pub mod Verdicts
 pub mod KeepsMeasure
 pub mod KeepsApart
+pub mod KeepsEverywhere
 pub mod KeepsLevel
 pub mod KeepsReached
 pub mod KeepsWays

@@ -1,5 +1,5 @@
--- What removal keeps of every record: it hands on the records that it finds, and makes only Empty and Expression statements and plain expressions.
--- So a test that passes no record of a tree, and none of these three, passes no record of what is left.
+-- A test that passes no record of a tree, and none of those that removal makes, passes no record of what is left: it is a fact on every
+-- record that does not look at the nesting.
 --
 --   Nowhere                        a test passes no record of a chain
 --   nowhere-treated                nor of what is left of it
@@ -13,6 +13,7 @@ use Rattle.rules.specs.Kinds.{empty-statement, block, expression-statement, pla
 use Rattle.rules.specs.Removal.{By, Place, Left, Verdict, place-inside, asm, entered, swept, wrapped-object, verdict, become, values, joined, done, treated, treat}
 use Rattle.rules.specs.Removal.Verdict.{stays, sweeps, empties, unlinks, restates, yields, unwraps}
 use Rattle.rules.specs.Law.{Without-asm}
+use Rattle.laws.proofs.KeepsEverywhere.{Everywhere, treat-all}
 
 -- a test passes no record of a chain
 abbrev pub Nowhere : (Head → Bool) → Chain → Type 0
@@ -25,70 +26,22 @@ pub record Unmade (test : Head → Bool) : Type 0 where
   pub statement : (h : Head) → test (become expression-statement h) ≡ false
   pub plain : (h : Head) → test (become plain-expression h) ≡ false
 
-module _ (test : Head → Bool) where
-  nowhere-either : (b : Bool) (x y : Chain) → Nowhere test x → Nowhere test y → Nowhere test (if b then x else y)
-  nowhere-either true x y p q = p
-  nowhere-either false x y p q = q
+pub nowhere-below : (test : Head → Bool) (c : Chain) → Nowhere test c → Nowhere test (below c)
+nowhere-below test end p = p
+nowhere-below test (link h cs rest) p = p .1
 
-  nowhere-after : (c : Chain) → Nowhere test c → Nowhere test (after c)
-  nowhere-after end p = p
-  nowhere-after (link h cs rest) p = p .2
+nowhere-everywhere : (test : Head → Bool) → Unmade test → Everywhere (λ n h. test h ≡ false) (λ n c. Nowhere test c)
+nowhere-everywhere test unmade = record {
+  none = λ n. tt;
+  more = λ n h children rest a b c. (a, b, c);
+  first = λ n h children rest l. l .0;
+  inner = λ n h children rest l. l .1;
+  others = λ n h children rest l. l .2;
+  up = λ n c l. l;
+  empty = λ n h a. unmade .empty h; statement = λ n h a. unmade .statement h; plain = λ n h a. unmade .plain h }
 
-  pub nowhere-below : (c : Chain) → Nowhere test c → Nowhere test (below c)
-  nowhere-below end p = p
-  nowhere-below (link h cs rest) p = p .1
-
-  nowhere-alone : (c : Chain) → Nowhere test c → Nowhere test (alone c)
-  nowhere-alone end p = p
-  nowhere-alone (link h cs rest) p = (p .0, p .1, tt)
-
-  nowhere-append : (c d : Chain) → Nowhere test c → Nowhere test d → Nowhere test (append c d)
-  nowhere-append end d p q = q
-  nowhere-append (link h cs rest) d p q = (p .0, p .1, nowhere-append rest d (p .2) q)
-
-  nowhere-swept : (c : Chain) → Nowhere test c → Nowhere test (swept c)
-  nowhere-swept end p = p
-  nowhere-swept (link h cs rest) p =
-    nowhere-either (h is empty-statement || (h is block && isEnd cs)) (swept rest) (link h cs (swept rest)) (nowhere-swept rest (p .2)) (p .0, p .1, nowhere-swept rest (p .2))
-
-  nowhere-values : (c : Chain) → Nowhere test c → Nowhere test (values c)
-  nowhere-values end p = p
-  nowhere-values (link d parts rest) p =
-    nowhere-append (alone (after parts)) (values rest) (nowhere-alone (after parts) (nowhere-after parts (p .1))) (nowhere-values rest (p .2))
-
-  nowhere-wrapped : (c : Chain) → Nowhere test c → Nowhere test (wrapped-object c)
-  nowhere-wrapped c p = nowhere-below (below (below (below c))) (nowhere-below (below (below c)) (nowhere-below (below c) (nowhere-below c p)))
-
-module _ (test : Head → Bool) (unmade : Unmade test) where
-  nowhere-joined : (c : Chain) → Nowhere test c → Nowhere test (joined c)
-  nowhere-joined end p = p
-  nowhere-joined (link d parts rest) p =
-    let all = values (link d parts rest) in
-    let q = nowhere-values test (link d parts rest) p in
-    nowhere-either test (isEnd (after all)) all (link (become plain-expression d) all end) q (unmade .plain d, q, tt)
-
-  nowhere-done : (v : Verdict) (h : Head) (inner : Left) → test h ≡ false → Nowhere test (inner .chain) → Nowhere test (done v h inner .chain)
-  nowhere-done stays h inner p q = (p, q, tt)
-  nowhere-done sweeps h inner p q = (p, nowhere-swept test (inner .chain) q, tt)
-  nowhere-done (empties names) h inner p q = (unmade .empty h, tt, tt)
-  nowhere-done (unlinks name) h inner p q = tt
-  nowhere-done restates h inner p q = (unmade .statement h, nowhere-joined (inner .chain) q, tt)
-  nowhere-done (yields name) h inner p q = nowhere-alone test (after (inner .chain)) (nowhere-after test (inner .chain) q)
-  nowhere-done unwraps h inner p q = nowhere-alone test (wrapped-object (inner .chain)) (nowhere-wrapped test (inner .chain) q)
-
-  module _ (by : By) where
-    nowhere-one : (into : Bool) (p : Place) (h : Head) (found : Chain) (inner : Left) → test h ≡ false → Nowhere test found → Nowhere test (inner .chain) → Nowhere test (treated into by p h found inner .chain)
-    nowhere-one true p h found inner t f q = nowhere-done (verdict by p h found (inner .chain)) h inner t q
-    nowhere-one false p h found inner t f q = (t, f, tt)
-
-    pub nowhere-treated : (p : Place) (c : Chain) → Nowhere test c → Nowhere test (treat by p c .chain)
-    nowhere-treated p end f = f
-    nowhere-treated p (link h cs rest) f =
-      let inner = treat by (place-inside p h) cs in
-      let into = entered p h cs (isEnd rest) in
-      nowhere-append test (treated into by p h cs inner .chain) (treat by p rest .chain)
-        (nowhere-one into p h cs inner (f .0) (f .1) (nowhere-treated (place-inside p h) cs (f .1)))
-        (nowhere-treated p rest (f .2))
+pub nowhere-treated : (test : Head → Bool) → Unmade test → (by : By) (p : Place) (c : Chain) → Nowhere test c → Nowhere test (treat by p c .chain)
+nowhere-treated test unmade by p c f = treat-all (λ n h. test h ≡ false) (λ n c. Nowhere test c) (nowhere-everywhere test unmade) by p 0 c f
 
 -- THE STRING 'use asm'
 
