@@ -4,6 +4,7 @@
 --   cond-ap, if-both, cond-nest, cond-commutes, elim-both      choices
 --   by-equal, by-same                               at one key or name, or at two that differ
 --   in-append, in-left, in-right, in-if, if-in      members of one list after another, and of a list under a test
+--   Each, each-member                               a fact on each kind of a list
 --   fine-eq, refused-fine                           outcomes
 use Prim.Native.Nat.{ℕ}
 use native.Mathlib.Omega.{arith}
@@ -11,10 +12,12 @@ use mathlib.Core.Path.{_≡_, refl, sym, ap, ap₂, _∙_, subst}
 use mathlib.Core.Bool.{Bool, true, false, cond, _||_}
 use mathlib.Core.List.{List, [], _∷_, _++_}
 use mathlib.Core.Logic.{_⊎_, inl, inr, ⊎-elim}
-use Rattle.std.proofs.shelf.Tests.{cases-bool, both-ways}
+use lib.Dec.{eqb}
+use Rattle.std.proofs.shelf.Tests.{cases-bool, both-ways, or-cases, eqb-true}
 use Rattle.rules.specs.Tree.{Name, if_then_else_}
 use Rattle.rules.specs.Refusals.{Outcome}
 use Rattle.rules.specs.Refusals.Outcome.{fine, refused}
+use Rattle.rules.specs.Kinds.{member}
 use Rattle.rules.specs.Names.{same}
 use Rattle.rules.specs.Law.{In}
 use Rattle.rules.proofs.SameNames.{same-eq, same-refl}
@@ -99,6 +102,15 @@ in-if x false xs h = absurd h
 pub if-in : {A : Type 0} (x : A) (b : Bool) (xs : List A) → b ≡ true → In x xs → In x (if b then xs else [])
 if-in x true xs e h = h
 if-in x false xs e h = absurd (both-ways false refl e)
+
+-- a fact on each number of a list
+abbrev pub Each : (ℕ → Type 0) → List ℕ → Type 0
+Each P [] = Unit {0}
+Each P (k ∷ ks) = P k × Each P ks
+
+pub each-member : (P : ℕ → Type 0) (k : ℕ) (ks : List ℕ) → Each P ks → member k ks ≡ true → P k
+each-member P k [] all g = absurd (both-ways false refl g)
+each-member P k (m ∷ ks) all g = ⊎-elim (λ e. subst P (sym (eqb-true k m e)) (all .0)) (λ y. each-member P k ks (all .1) y) (or-cases (eqb k m) (member k ks) g)
 
 -- OUTCOMES
 

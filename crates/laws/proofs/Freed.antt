@@ -2,7 +2,7 @@
 -- never read. A reference to such a name that was counted has holders, all of its closed ring: outside closed rings the row is
 -- as counted, and would not be free; in one, each holder has its edge, and without a holder the name would be an entry.
 --
---   Within, unused-within, unread-within      the references to a free name
+--   Held-in-ring, unused-within, unread-within      the references to a free name
 --   taken-unused, gave-unread                 the names taken and given
 use Prim.Native.Nat.{_≤_}
 use native.Mathlib.Omega.{arith}
@@ -43,7 +43,7 @@ unread-zero : (k : Config) (r : NameRow) → never-read k r ≡ true → r .usag
 unread-zero k r g = eqb-true (r .usage) 0 (and-parts (eqb (r .usage) 0) (k .top-level || not (r .entry)) (and-parts (r .counted) _ g .1) .0)
 
 -- the references to a name that is free: it stands in a closed ring, and its references have holders, all of that ring
-pub record Within (c : Counts) (e : Event) : Type 0 where
+pub record Held-in-ring (c : Counts) (e : Event) : Type 0 where
   pub ring : closed c (e .name) ≡ true
   pub held : unheld (e .holders) ≡ false
   pub shares : (m : Name) → In m (e .holders) → among m (component (c .edges) (e .name)) ≡ true
@@ -53,7 +53,7 @@ module _ (es : List Event) (e : Event) (r : Reference e) (x : In e es) where
   abbrev c : Counts
   c = filled es no-rows
 
-  closed-within : closed c (e .name) ≡ true → Within c e
+  closed-within : closed c (e .name) ≡ true → Held-in-ring c e
   closed-within g = record {
     ring = g;
     held = ⊎-elim
@@ -70,14 +70,14 @@ module _ (es : List Event) (e : Event) (r : Reference e) (x : In e es) where
   is-written : e .writes ≡ true → 1 ≤ look (e .name) (c .names) .assign
   is-written w = event-row (λ (s : NameRow). 1 ≤ s .assign) (λ v s y. omega arith) e (λ s. rw w (omega arith)) es no-rows x
 
-  pub unused-within : unused (look (e .name) (discount c)) ≡ true → Within c e
+  pub unused-within : unused (look (e .name) (discount c)) ≡ true → Held-in-ring c e
   unused-within h = ⊎-elim closed-within
     (λ g.
       let z = unused-zero (look (e .name) (c .names)) (subst (λ (s : NameRow). unused s ≡ true) (open-row c (e .name) g) h) is-counted in
       absurd (⊎-elim (λ w. omega (arith, is-written w, z .1)) (λ w. omega (arith, is-read w, z .0)) (cases-bool (e .writes))))
     (cases-bool (closed c (e .name)))
 
-  pub unread-within : (k : Config) → e .writes ≡ false → never-read k (look (e .name) (discount c)) ≡ true → Within c e
+  pub unread-within : (k : Config) → e .writes ≡ false → never-read k (look (e .name) (discount c)) ≡ true → Held-in-ring c e
   unread-within k w h = ⊎-elim closed-within
     (λ g.
       let z = unread-zero k (look (e .name) (c .names)) (subst (λ (s : NameRow). never-read k s ≡ true) (open-row c (e .name) g) h) in

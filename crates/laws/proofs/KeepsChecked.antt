@@ -18,8 +18,8 @@ use Rattle.rules.specs.Removal.{By, Place, Left, Verdict, at-root, place-inside
 use Rattle.rules.specs.Removal.Verdict.{stays, sweeps, empties, unlinks, restates, yields, unwraps}
 use Rattle.rules.proofs.Sounds.{check-sound, check-complete}
 use Rattle.laws.specs.KeepsTree.{Keeps-root, Checked-again}
-use Rattle.laws.proofs.Verdicts.{Means, means, Emptying, Unlinking}
-use Rattle.laws.proofs.Verdicts.Emptying.{fn, class, imports, var}
+use Rattle.laws.proofs.Basics.{each-member}
+use Rattle.laws.proofs.Verdicts.{Means, means, Emptying, emptying-kinds, emptying-kind, Unlinking}
 use Rattle.laws.proofs.Verdicts.Unlinking.{declares, specifies}
 use Rattle.laws.proofs.Formed.{formed-one}
 use Rattle.laws.proofs.KeepsApart.{keeps-apart}
@@ -27,19 +27,17 @@ use Rattle.laws.proofs.KeepsLevel.{keeps-level}
 use Rattle.laws.proofs.KeepsFormed.{keeps-formed}
 
 -- a root's kind
-abbrev root-kind : ℕ → Bool
-root-kind k = eqb k module-root || eqb k script-root
+abbrev a-root : ℕ → Bool
+a-root k = eqb k module-root || eqb k script-root
 
-module _ (by : By) (p : Place) (h : Head) (is-root : root-kind (h .kind) ≡ true) where
+module _ (by : By) (p : Place) (h : Head) (is-root : a-root (h .kind) ≡ true) where
   -- a record of another kind is no root
-  other : (k : ℕ) → root-kind k ≡ false → h .kind ≡ k → ⊥
-  other k e s = both-ways (root-kind k) e (subst (λ (j : ℕ). root-kind j ≡ true) s is-root)
+  other : (k : ℕ) → a-root k ≡ false → h .kind ≡ k → ⊥
+  other k e s = both-ways (a-root k) e (subst (λ (j : ℕ). a-root j ≡ true) s is-root)
 
   emptied-other : (found children : Chain) → Emptying p h found children → ⊥
-  emptied-other found children (fn k x) = other _ refl k
-  emptied-other found children (class k x) = other _ refl k
-  emptied-other found children (imports k x) = other _ refl k
-  emptied-other found children (var k x) = other _ refl k
+  emptied-other found children m =
+    both-ways (a-root (h .kind)) (each-member (λ (k : ℕ). a-root k ≡ false) (h .kind) emptying-kinds (refl, (refl, (refl, (refl, tt)))) (emptying-kind p h found children m)) is-root
 
   unlinked-other : Unlinking p h → ⊥
   unlinked-other (declares k x) = other _ refl k
@@ -62,9 +60,9 @@ pub keeps-root : Keeps-root
 keeps-root by end f = absurd (both-ways false refl f)
 keeps-root by (link h children end) f =
   let inner = treat by (place-inside at-root h) children in
-  let t = treated-root by at-root h (formed-one root-kind [] (link h children end) f .0) (entered at-root h children true) children inner in
+  let t = treated-root by at-root h (formed-one a-root [] (link h children end) f .0) (entered at-root h children true) children inner in
   record { head = h; children = children; remaining = t .0; found-is = refl; left-is = ap (λ (d : Chain). append d end) (t .1) }
-keeps-root by (link h children (link g under rest)) f = absurd (both-ways true (formed-one root-kind [] (link h children (link g under rest)) f .1 .1) refl)
+keeps-root by (link h children (link g under rest)) f = absurd (both-ways true (formed-one a-root [] (link h children (link g under rest)) f .1 .1) refl)
 
 -- nothing follows the one record that words hold
 held-alone : (words : List ℕ) (h : Head) (children c : Chain) → c ≡ link h children end → Holds words 1 c → next words 1 ≡ 0

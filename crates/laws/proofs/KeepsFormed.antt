@@ -25,14 +25,14 @@ use Rattle.rules.specs.Held.{Formed}
 use Rattle.rules.specs.Removal.{By, Place, Left, Verdict, at-root, place-inside, entered, has-list, wraps-object, wrapped-object, returns-object, swept, verdict, done, treated, treat}
 use Rattle.rules.specs.Removal.Verdict.{stays, sweeps, empties, unlinks, restates, yields, unwraps}
 use Rattle.laws.specs.KeepsTree.{Keeps-formed}
-use Rattle.laws.proofs.Verdicts.{Means, means, Emptying, Unlinking, wraps}
+use Rattle.laws.proofs.Verdicts.{Means, means, Emptying, Unlinking, by-list, wraps}
 use Rattle.laws.proofs.Verdicts.Emptying.{fn, class, imports, var}
 use Rattle.laws.proofs.Verdicts.Unlinking.{declares, specifies}
 use Rattle.laws.proofs.Formed.{first-kind, list-of, formed-one, Record-formed, First-formed, first-formed, below-formed}
 use Rattle.laws.proofs.KeepsWays.{formed-filled}
 use Rattle.laws.proofs.KeepsFair.{stand-ins}
-use Rattle.laws.proofs.KeepsTable.{Ready, Stands, declarators, inner-ways, ready-fair, ready-inside, swap-moving, swap-declaring, swap-var, drop-ready}
-use Rattle.laws.proofs.KeepsTable.Ready.{anywhere}
+use Rattle.laws.proofs.KeepsTable.{Bears, Stands, declarators, inner-ways, bears-fair, bears-inside, swap-moving, swap-declaring, swap-var, drop-formed}
+use Rattle.laws.proofs.KeepsTable.Bears.{anywhere}
 use Rattle.laws.proofs.KeepsLists.{swept-formed, inner-formed, children-formed}
 use Rattle.laws.proofs.KeepsValues.{exported-filled, First-kept, first-kept, restated-formed}
 
@@ -45,17 +45,9 @@ expression-stands : (m : ℕ) → expression m ≡ true → member m (stand-ins 
 expression-stands m e = grind (arith, tells)
 
 -- a list's children are of one sort, and swept they are
-list-swept : (sort : ℕ → Bool) (h : Head) (c : Chain) → inner-ways h ≡ list-of sort → children-of h ≡ list-of sort → Formed (inner-ways h) c → Formed (children-of h) (swept c)
-list-swept sort h c a b f =
-  subst (λ (w : List Way). Formed w (swept c)) (sym b) (swept-formed sort c (subst (λ (w : List Way). Formed w c) a f))
-
 children-swept : (h : Head) (c : Chain) → has-list h ≡ true → Formed (inner-ways h) c → Formed (children-of h) (swept c)
 children-swept h c l f =
-  ⊎-elim (λ x. let k = eqb-true (h .kind) module-root x in list-swept item h c (rw k) (rw k) f)
-    (λ y. ⊎-elim (λ x. let k = eqb-true (h .kind) script-root x in list-swept statement h c (rw k) (rw k) f)
-      (λ x. let k = eqb-true (h .kind) block x in list-swept statement h c (rw k) (rw k) f)
-      (or-cases (h is script-root) (h is block) y))
-    (or-cases (h is module-root) (h is script-root || h is block) l)
+  by-list (λ (g : Head). Formed (inner-ways g) c → Formed (children-of g) (swept c)) h l (swept-formed item c) (swept-formed statement c) (swept-formed statement c) f
 
 module _ (ways : List Way) (onward : Chain) where
   -- the value of an Assignment takes its place
@@ -75,7 +67,7 @@ module _ (ways : List Way) (onward : Chain) where
 
 -- what is left of one record: its children are left formed, and so is what follows it. Of a Var: it is a For's last child if it stands
 -- in one, it is not exported if its Declarators went, and the first that is left was not to go.
-module _ (by : By) (p : Place) (ways : List Way) (h : Head) (found : Chain) (ready : Ready p ways) (fit : words-fit h ≡ true)
+module _ (by : By) (p : Place) (ways : List Way) (h : Head) (found : Chain) (ready : Bears p ways) (fit : words-fit h ≡ true)
     (inner : Left) (within : Formed (inner-ways h) (inner .chain)) (onward : Chain) (stands : Stands ways (h .kind) onward)
     (last : h .kind ≡ var-declaration → p .parent ≡ for-statement → onward ≡ end)
     (inward : h .kind ≡ var-declaration → isEnd (inner .chain) ≡ true → p .in-export ≡ false)
@@ -92,8 +84,8 @@ module _ (by : By) (p : Place) (ways : List Way) (h : Head) (found : Chain) (rea
   emptied-stands (var k x) = swap-var p ways onward empty-statement refl (inward k x) (last k) ready (stands-as var-declaration k)
 
   unlinked-formed : Unlinking p h → Formed ways onward
-  unlinked-formed (declares k x) = drop-ready p ways onward declarator refl ready (stands-as declarator k .1)
-  unlinked-formed (specifies k) = drop-ready p ways onward specifier refl ready (stands-as specifier k .1)
+  unlinked-formed (declares k x) = drop-formed p ways onward declarator refl ready (stands-as declarator k .1)
+  unlinked-formed (specifies k) = drop-formed p ways onward specifier refl ready (stands-as specifier k .1)
 
   done-formed : (v : Verdict) → Means by p h found (inner .chain) v → Formed ways (append (done v h inner .chain) onward)
   done-formed stays m = (fit, stands .0, children-formed h (inner .chain) (m .filled) within, stands .1)
@@ -141,13 +133,13 @@ var-inward by p h children f k e =
     (λ x. absurd (both-ways (isEnd (treat by q children .chain)) (exported-filled by q (export-inside p h k x) children g (formed-filled (children-of h) children (rw k) f)) e))
     (λ x. x) (cases-bool (p .in-export))
 
-pub treat-formed : (by : By) (p : Place) (ways : List Way) (c : Chain) → Ready p ways → Formed ways c → Formed ways (treat by p c .chain)
+pub treat-formed : (by : By) (p : Place) (ways : List Way) (c : Chain) → Bears p ways → Formed ways c → Formed ways (treat by p c .chain)
 treat-formed by p ways end ready f = f
 treat-formed by p ways (link h children rest) ready f =
   let q = place-inside p h in
   let g = inner-formed h children (f .2) in
-  go (treat-formed by q (inner-ways h) children (ready-inside p h) g)
-    (treat-formed by p (step (h .kind) ways) rest (anywhere (ready-fair p (h .kind) ways ready)) (f .3))
+  go (treat-formed by q (inner-ways h) children (bears-inside p h) g)
+    (treat-formed by p (step (h .kind) ways) rest (anywhere (bears-fair p (h .kind) ways ready)) (f .3))
     (entered p h children (isEnd rest)) refl
   where
     go : Formed (inner-ways h) (treat by (place-inside p h) children .chain) → Formed (step (h .kind) ways) (treat by p rest .chain) →
@@ -165,7 +157,7 @@ treat-formed by p ways (link h children rest) ready f =
 
 -- what is left of a record's children, before the record itself is treated
 pub inner-kept : (by : By) (p : Place) (h : Head) (children : Chain) → Formed (children-of h) children → Formed (inner-ways h) (treat by (place-inside p h) children .chain)
-inner-kept by p h children f = treat-formed by (place-inside p h) (inner-ways h) children (ready-inside p h) (inner-formed h children f)
+inner-kept by p h children f = treat-formed by (place-inside p h) (inner-ways h) children (bears-inside p h) (inner-formed h children f)
 
 pub keeps-formed : Keeps-formed
 keeps-formed by c f = treat-formed by at-root root c (anywhere refl) f

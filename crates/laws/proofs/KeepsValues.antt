@@ -23,8 +23,7 @@ use Rattle.rules.specs.Grammar.Part.{one, maybe}
 use Rattle.rules.specs.Held.{Formed}
 use Rattle.rules.specs.Removal.{By, Place, Left, Verdict, place-inside, entered, has-list, first-acts, name-goes, all-go, declarator-goes, become, values, joined, verdict, done, treated, treat}
 use Rattle.rules.specs.Removal.Verdict.{stays, sweeps, empties, unlinks, restates, yields, unwraps}
-use Rattle.laws.proofs.Verdicts.{Means, means, Emptying, Unlinking, Restated}
-use Rattle.laws.proofs.Verdicts.Emptying.{fn, class, imports, var}
+use Rattle.laws.proofs.Verdicts.{Means, means, Emptying, emptying-kind, Unlinking, Restated}
 use Rattle.laws.proofs.Verdicts.Unlinking.{declares, specifies}
 use Rattle.laws.proofs.Formed.{list-of, listed, list-link, formed-one, one-link, maybe-taken, binding-ways, declarator-children}
 use Rattle.laws.proofs.KeepsTable.{declarators}
@@ -49,10 +48,7 @@ pub data Declarator-left (by : By) (p : Place) (h : Head) (children left : Chain
 
 module _ (by : By) (p : Place) (h : Head) (k : h .kind ≡ declarator) where
   emptied-other : (found children : Chain) → Emptying p h found children → ⊥
-  emptied-other found children (fn e x) = omega arith
-  emptied-other found children (class e x) = omega arith
-  emptied-other found children (imports e x) = omega arith
-  emptied-other found children (var e x) = omega arith
+  emptied-other found children m = both-ways false refl (rw k at (emptying-kind p h found children m))
 
   unlinked-inward : Unlinking p h → p .in-export ≡ false
   unlinked-inward (declares e x) = x

@@ -16,6 +16,7 @@ use Rattle.rules.specs.Removal.{By, Place, Left, at-root, place-inside, asm, en
 use Rattle.rules.specs.Law.{Shuffled}
 use Rattle.rules.specs.Law.Shuffled.{none, past, swap, again}
 use Rattle.laws.proofs.Basics.{cond-ap, or-swap}
+use Rattle.laws.proofs.Verdicts.{entered-anywhere}
 use Rattle.laws.proofs.Shuffles.{shuffled-after, exchange}
 use Rattle.laws.proofs.UnnumberedRemoval.{swept-unnumbered, treat-unnumbered}
 use Rattle.laws.proofs.OrderCount.{root-of}
@@ -44,12 +45,8 @@ swept-append (link h cs rest) d =
   ∙ sym (cond-ap (λ (z : Chain). append z (swept d)) (h is empty-statement || (h is block && isEnd cs)) (swept rest) (link h cs (swept rest)))
 
 module _ (by : By) (p : Place) (quiet : eqb (p .parent) for-statement ≡ false) where
-  -- whether an item comes last does not matter
-  entered-alike : (h : Head) (cs : Chain) (last : Bool) → entered p h cs last ≡ entered p h cs true
-  entered-alike h cs last = rw quiet
-
   treat-link : (h : Head) (cs rest : Chain) → treat by p (link h cs rest) ≡ both (item-left by p h cs) (treat by p rest)
-  treat-link h cs rest = ap (λ (b : Bool). both (treated b by p h cs (treat by (place-inside p h) cs)) (treat by p rest)) (entered-alike h cs (isEnd rest))
+  treat-link h cs rest = ap (λ (b : Bool). both (treated b by p h cs (treat by (place-inside p h) cs)) (treat by p rest)) (entered-anywhere p h cs (isEnd rest) true quiet)
 
   pub remains-link : (h : Head) (cs rest : Chain) → remains by p (link h cs rest) ≡ append (swept (item-left by p h cs .chain)) (remains by p rest)
   remains-link h cs rest = ap (λ (l : Left). swept (l .chain)) (treat-link h cs rest) ∙ swept-append (item-left by p h cs .chain) (treat by p rest .chain)

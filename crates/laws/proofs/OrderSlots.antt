@@ -4,7 +4,6 @@
 --   Items                    items that are no expressions, each with its own number
 --   Slot                     a record with this number, or nothing
 --   remains-at               what stays of an item is made of the item alone
---   remains-items            the items that are left are such items again
 use Prim.Native.Nat.{ℕ}
 use mathlib.Core.Path.{_≡_, refl, sym, ap, _∙_, subst}
 use mathlib.Core.Bool.{Bool, true, false, _&&_, _||_}
@@ -66,10 +65,6 @@ slot-past : (n a : ℕ) {x : Chain} (r : Chain) → eqb a n ≡ false → Slot n
 slot-past n a r z gone = refl
 slot-past n a r z (there {h = h} {cs = cs} q w) = ap (λ (b : Bool). if b then unnumbered (link h cs end) else item-at a r) (ap (eqb a) q ∙ z)
 
-slot-items : (n : ℕ) {x : Chain} (r : Chain) → Slot n x → item-at n r ≡ end → Items r → Items (append x r)
-slot-items n r gone z i = i
-slot-items n r (there {h = h} q w) z i = (w, ap (λ (m : ℕ). item-at m r) q ∙ z, i)
-
 append-end : (c : Chain) → append c end ≡ c
 append-end end = refl
 append-end (link h cs rest) = ap (link h cs) (append-end rest)
@@ -91,8 +86,3 @@ module _ (by : By) (unseen : (c : Chain) → (by .config .acts) (unnumbered c) �
   pub remains-at : (a : ℕ) (cs : Chain) → Items cs → item-at a (remains by p cs) ≡ remains by p (item-at a cs)
   remains-at a end i = refl
   remains-at a (link h cs rest) i = ap (item-at a) (remains-link by p quiet h cs rest) ∙ step-at a h cs rest (i .0) (i .1) (remains-at a rest (i .2)) (eqb a (h .number)) refl
-
-  pub remains-items : (cs : Chain) → Items cs → Items (remains by p cs)
-  remains-items end i = i
-  remains-items (link h cs rest) i = subst Items (sym (remains-link by p quiet h cs rest))
-    (slot-items (h .number) (remains by p rest) (slot h cs (i .0)) (remains-at (h .number) rest (i .2) ∙ ap (remains by p) (i .1)) (remains-items rest (i .2)))

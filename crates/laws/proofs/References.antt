@@ -25,7 +25,7 @@ use Rattle.laws.proofs.Refers.{Refers}
 use Rattle.laws.proofs.RefersKept.{treat-refers}
 use Rattle.laws.proofs.Tallied.{count-refers, refers-count}
 use Rattle.laws.proofs.Insides.{holder-inside}
-use Rattle.laws.proofs.Freed.{Within, unused-within, unread-within, taken-unused, gave-unread}
+use Rattle.laws.proofs.Freed.{Held-in-ring, unused-within, unread-within, taken-unused, gave-unread}
 use Rattle.laws.proofs.Runs.{Later, later-then, Ready, begun-ready, Full, Result, pass-result, result-ready, turn-cases, call-cases, call-ready}
 use Rattle.laws.proofs.Runs.Later.{here, onward}
 use Rattle.laws.proofs.Runs.Result.{not-made, one-made}
@@ -43,9 +43,9 @@ pub record Made (k : Config) (p : Pass) (left : Chain) : Type 0 where
   pub later : Later (remove k p .chain) left
 
 -- a reference with holders of a closed ring stands inside the first
-in-ring : (p : Pass) (left : Chain) (e : Event) → Reference e → In e (events-of left) → (hs : List Name) → e .holders ≡ hs → Within (p .filled .counts) e → Inside-ring p left e
-in-ring p left e r x [] q w = absurd (both-ways true (subst (λ (hs : List Name). unheld hs ≡ false) q (w .held)) refl)
-in-ring p left e r x (m ∷ hs) q w =
+ring-inside : (p : Pass) (left : Chain) (e : Event) → Reference e → In e (events-of left) → (hs : List Name) → e .holders ≡ hs → Held-in-ring (p .filled .counts) e → Inside-ring p left e
+ring-inside p left e r x [] q w = absurd (both-ways true (subst (λ (hs : List Name). unheld hs ≡ false) q (w .held)) refl)
+ring-inside p left e r x (m ∷ hs) q w =
   let first : In m (e .holders) = subst (λ (l : List Name). In m l) (sym q) (inl refl) in
   record { holder = m; inside = holder-inside e left r x m first; ring = w .ring; shares = w .shares m first }
 
@@ -56,7 +56,7 @@ made-references k p left m e x r y =
   let by = pass-by k (p .filled) in
   let es = events-of (p .found) in
   let z = refers-count e (p .found) outermost (later-refers e (onward by (p .found) (m .later)) (m .formed) (count-refers e r left outermost x)) in
-  in-ring p left e r x (e .holders) refl (subst (λ (c : Counts). Within c e) (sym (m .full)) (⊎-elim
+  ring-inside p left e r x (e .holders) refl (subst (λ (c : Counts). Held-in-ring c e) (sym (m .full)) (⊎-elim
     (λ t. unused-within es e r z (subst (λ (c : Counts). unused (look (e .name) (discount c)) ≡ true) (m .full) (taken-unused by (e .name) (p .found) at-root t)))
     (λ t. unread-within es e r z k (t .1) (subst (λ (c : Counts). never-read k (look (e .name) (discount c)) ≡ true) (m .full) (gave-unread by (e .name) (p .found) at-root (t .0)))) y))
 

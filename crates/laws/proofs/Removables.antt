@@ -22,15 +22,11 @@ use Rattle.rules.specs.Removal.{Config, By, Place, Left, Verdict, at-root, perm
 use Rattle.rules.specs.Removal.Verdict.{stays, sweeps, empties, unlinks, restates, yields, unwraps}
 use Rattle.rules.specs.Calls.{Pass, pass-by, remove}
 use Rattle.rules.specs.Law.{removable, Removable, Counted}
-use Rattle.laws.proofs.Verdicts.{Means, means, treated-both, by-list}
+use Rattle.laws.proofs.Verdicts.{Means, means, treated-both, by-list, entered-anywhere}
 use Rattle.laws.proofs.TablesTold.{counted-only}
 use Rattle.laws.proofs.RingsDiscount.{counted-row}
 use Rattle.laws.proofs.Runs.{Full}
 use Rattle.laws.proofs.Unchanged.{treat-same}
-
--- outside a For it does not matter whether a record is the last
-entered-anywhere : (p : Place) (h : Head) (cs : Chain) (a b : Bool) → eqb (p .parent) for-statement ≡ false → entered p h cs a ≡ entered p h cs b
-entered-anywhere p h cs a b g = rw g
 
 list-no-for : (h : Head) → has-list h ≡ true → eqb (h .kind) for-statement ≡ false
 list-no-for h g = by-list (λ (h : Head). eqb (h .kind) for-statement ≡ false) h g refl refl refl

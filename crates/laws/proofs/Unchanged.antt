@@ -1,7 +1,7 @@
 -- A removal that changes nothing only sweeps lists, and what it leaves counts, declares and binds the same: what is swept is Empty
 -- or a Block without children, and neither counts or declares anything.
 --
---   Same                the tree left gives the same counts, declared names, bound names and exported names
+--   Reads-same                the tree left gives the same counts, declared names, bound names and exported names
 --   treat-same          a removal that changes nothing leaves such a tree
 use Prim.Native.Nat.{ℕ}
 use mathlib.Core.Path.{_≡_, refl, sym, ap, subst, _∙_}
@@ -18,7 +18,8 @@ use Rattle.rules.specs.Names.{Under, under, under-nothing, declares, declaring,
 use Rattle.rules.specs.Counting.{Found, Around, nothing, _followed-by_, reading, writing, readings, marks, named-here, calls-eval, opens, inside, count}
 use Rattle.rules.specs.Removal.{By, Place, Left, Verdict, place-inside, entered, has-list, swept, verdict, done, treated, treat}
 use Rattle.rules.specs.Removal.Verdict.{stays, sweeps, empties, unlinks, restates, yields, unwraps}
-use Rattle.laws.proofs.Verdicts.{Means, means, treated-both, each-member, with-kind, by-list}
+use Rattle.laws.proofs.Verdicts.{Means, means, treated-both, with-kind, by-list}
+use Rattle.laws.proofs.Basics.{each-member}
 use Rattle.laws.proofs.Formed.{formed-none}
 use Rattle.laws.proofs.KeepsTable.{inner-ways}
 use Rattle.laws.proofs.KeepsFormed.{inner-kept}
@@ -86,7 +87,7 @@ declaring-swept u ways (link h cs rest) s =
 -- THE SAME TREE
 
 -- the tree left gives the same
-pub record Same (c left : Chain) : Type 0 where
+pub record Reads-same (c left : Chain) : Type 0 where
   pub counts : (a : Around) → count a left ≡ count a c
   pub declarations : (u : Under) → declaring u left ≡ declaring u c
   pub bounds : bound left ≡ bound c
@@ -94,11 +95,11 @@ pub record Same (c left : Chain) : Type 0 where
   pub evals : calls-eval left ≡ calls-eval c
   pub ends : isEnd left ≡ isEnd c
 
-pub same-refl : (c : Chain) → Same c c
-same-refl c = record { counts = λ a. refl; declarations = λ u. refl; bounds = refl; exports = refl; evals = refl; ends = refl }
+pub reads-refl : (c : Chain) → Reads-same c c
+reads-refl c = record { counts = λ a. refl; declarations = λ u. refl; bounds = refl; exports = refl; evals = refl; ends = refl }
 
-same-then : (c d e : Chain) → Same c d → Same d e → Same c e
-same-then c d e s t = record {
+reads-then : (c d e : Chain) → Reads-same c d → Reads-same d e → Reads-same c e
+reads-then c d e s t = record {
   counts = λ a. t .counts a ∙ s .counts a;
   declarations = λ u. t .declarations u ∙ s .declarations u;
   bounds = t .bounds ∙ s .bounds;
@@ -107,8 +108,8 @@ same-then c d e s t = record {
   ends = t .ends ∙ s .ends }
 
 -- a record whose children and rest give the same
-same-link : (h : Head) (cs ds rest onward : Chain) → Same cs ds → Same rest onward → Same (link h cs rest) (link h ds onward)
-same-link h cs ds rest onward s t = record {
+reads-link : (h : Head) (cs ds rest onward : Chain) → Reads-same cs ds → Reads-same rest onward → Reads-same (link h cs rest) (link h ds onward)
+reads-link h cs ds rest onward s t = record {
   counts = λ a i. found-at a h (s .exports i) (s .counts (inside a h) i) (s .declarations (under under-nothing h) i) (s .bounds i) (s .evals i) (t .counts a i);
   declarations = λ u i. keep (declares u h) h (s .declarations (under u h) i ++ t .declarations u i);
   bounds = λ i. keep (binds h) h ((if nests h then s .bounds i else []) ++ t .bounds i);
@@ -126,8 +127,8 @@ list-exported : (h : Head) (cs rest : Chain) → has-list h ≡ true → exporte
 list-exported h cs rest g = by-list (λ (h : Head). exported (link h cs rest) ≡ exported rest) h g refl refl refl
 
 -- a list that is swept
-same-swept : (h : Head) (cs rest : Chain) → has-list h ≡ true → Formed (inner-ways h) cs → Same (link h cs rest) (link h (swept cs) rest)
-same-swept h cs rest g s = record {
+reads-swept : (h : Head) (cs rest : Chain) → has-list h ≡ true → Formed (inner-ways h) cs → Reads-same (link h cs rest) (link h (swept cs) rest)
+reads-swept h cs rest g s = record {
   counts = λ a. list-count a h (swept cs) rest g ∙ ap (λ (f : Found). f followed-by count a rest) (count-swept (inside a h) (inner-ways h) cs s) ∙ sym (list-count a h cs rest g);
   declarations = λ u. ap (λ (hs : List Head). keep (declares u h) h (hs ++ declaring u rest)) (declaring-swept (under u h) (inner-ways h) cs s);
   bounds = list-bound h (swept cs) rest g ∙ sym (list-bound h cs rest g);
@@ -141,29 +142,29 @@ same-swept h cs rest g s = record {
 pub record Stays (h : Head) (cs : Chain) (l : Left) : Type 0 where
   pub children : Chain
   pub stays-link : l .chain ≡ link h children end
-  pub gives : (rest : Chain) → Same (link h cs rest) (link h children rest)
+  pub gives : (rest : Chain) → Reads-same (link h cs rest) (link h children rest)
 
-done-same : (by : By) (p : Place) (h : Head) (cs : Chain) (inner : Left) → Formed (inner-ways h) (inner .chain) → (inner .changed ≡ false → Same cs (inner .chain))
+done-same : (by : By) (p : Place) (h : Head) (cs : Chain) (inner : Left) → Formed (inner-ways h) (inner .chain) → (inner .changed ≡ false → Reads-same cs (inner .chain))
   → (v : Verdict) → Means by p h cs (inner .chain) v → done v h inner .changed ≡ false → Stays h cs (done v h inner)
-done-same by p h cs inner t s stays m g = record { children = inner .chain; stays-link = refl; gives = λ rest. same-link h cs (inner .chain) rest rest (s g) (same-refl rest) }
+done-same by p h cs inner t s stays m g = record { children = inner .chain; stays-link = refl; gives = λ rest. reads-link h cs (inner .chain) rest rest (s g) (reads-refl rest) }
 done-same by p h cs inner t s sweeps m g = record {
   children = swept (inner .chain); stays-link = refl;
-  gives = λ rest. same-then (link h cs rest) (link h (inner .chain) rest) (link h (swept (inner .chain)) rest)
-    (same-link h cs (inner .chain) rest rest (s g) (same-refl rest)) (same-swept h (inner .chain) rest m t) }
+  gives = λ rest. reads-then (link h cs rest) (link h (inner .chain) rest) (link h (swept (inner .chain)) rest)
+    (reads-link h cs (inner .chain) rest rest (s g) (reads-refl rest)) (reads-swept h (inner .chain) rest m t) }
 done-same by p h cs inner t s (empties ns) m g = absurd (both-ways true g refl)
 done-same by p h cs inner t s (unlinks n) m g = absurd (both-ways true g refl)
 done-same by p h cs inner t s restates m g = absurd (both-ways true g refl)
 done-same by p h cs inner t s (yields n) m g = absurd (both-ways true g refl)
 done-same by p h cs inner t s unwraps m g = absurd (both-ways true g refl)
 
-both-same : (h : Head) (cs rest : Chain) (a b : Left) → Stays h cs a → Same rest (b .chain) → Same (link h cs rest) (append (a .chain) (b .chain))
+both-same : (h : Head) (cs rest : Chain) (a b : Left) → Stays h cs a → Reads-same rest (b .chain) → Reads-same (link h cs rest) (append (a .chain) (b .chain))
 both-same h cs rest a b x s =
-  subst (λ (c : Chain). Same (link h cs rest) (append c (b .chain))) (sym (x .stays-link))
-    (same-then (link h cs rest) (link h (x .children) rest) (link h (x .children) (b .chain)) (x .gives rest)
-      (same-link h (x .children) (x .children) rest (b .chain) (same-refl (x .children)) s))
+  subst (λ (c : Chain). Reads-same (link h cs rest) (append c (b .chain))) (sym (x .stays-link))
+    (reads-then (link h cs rest) (link h (x .children) rest) (link h (x .children) (b .chain)) (x .gives rest)
+      (reads-link h (x .children) (x .children) rest (b .chain) (reads-refl (x .children)) s))
 
-pub treat-same : (by : By) (p : Place) (ways : List Way) (c : Chain) → Formed ways c → treat by p c .changed ≡ false → Same c (treat by p c .chain)
-treat-same by p ways end s g = same-refl end
+pub treat-same : (by : By) (p : Place) (ways : List Way) (c : Chain) → Formed ways c → treat by p c .changed ≡ false → Reads-same c (treat by p c .chain)
+treat-same by p ways end s g = reads-refl end
 treat-same by p ways (link h cs rest) s g =
   let inner = treat by (place-inside p h) cs in
   let one = treated (entered p h cs (isEnd rest)) by p h cs inner in
@@ -172,6 +173,6 @@ treat-same by p ways (link h cs rest) s g =
     (treated-both (entered p h cs (isEnd rest)) by p h cs inner (λ (l : Left). l .changed ≡ false → Stays h cs l)
       (λ _. done-same by p h cs inner (inner-kept by p h cs (s .2)) (treat-same by (place-inside p h) (children-of h) cs (s .2))
         (verdict by p h cs (inner .chain)) (means by p h cs (inner .chain)))
-      (λ _ _. record { children = cs; stays-link = refl; gives = λ r. same-refl (link h cs r) })
+      (λ _ _. record { children = cs; stays-link = refl; gives = λ r. reads-refl (link h cs r) })
       (q .0))
     (treat-same by p (step (h .kind) ways) rest (s .3) (q .1))

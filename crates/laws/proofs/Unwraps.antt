@@ -20,28 +20,28 @@ use Rattle.laws.proofs.Formed.{first-kind, formed-none, First-formed, below-fo
 use Rattle.laws.proofs.Refers.{Refers}
 
 -- a reference is counted alike in both surroundings
-pub record Alike (a o : Around) : Type 0 where
+pub record Around-alike (a o : Around) : Type 0 where
   pub fns : a .cur-fn ≡ o .cur-fn
   pub classes : a .cur-class ≡ o .cur-class
   pub held : holders (a .ast-paths) ≡ holders (o .ast-paths)
 
-alike-back : (a o : Around) → Alike a o → Alike o a
+alike-back : (a o : Around) → Around-alike a o → Around-alike o a
 alike-back a o h = record { fns = sym (h .fns); classes = sym (h .classes); held = sym (h .held) }
 
-alike-then : (a o u : Around) → Alike a o → Alike o u → Alike a u
+alike-then : (a o u : Around) → Around-alike a o → Around-alike o u → Around-alike a u
 alike-then a o u h k = record { fns = h .fns ∙ k .fns; classes = h .classes ∙ k .classes; held = h .held ∙ k .held }
 
 held-inside : (b : Bool) (paths : List (List Name)) → holders paths ≡ holders (if b then [] ∷ paths else paths)
 held-inside true paths = refl
 held-inside false paths = refl
 
-alike-inside : (a : Around) (h : Head) (k : ℕ) → h .kind ≡ k → eqb k fn-declaration ≡ false → eqb k class-declaration ≡ false → Alike a (inside a h)
+alike-inside : (a : Around) (h : Head) (k : ℕ) → h .kind ≡ k → eqb k fn-declaration ≡ false → eqb k class-declaration ≡ false → Around-alike a (inside a h)
 alike-inside a h k g x y = record { fns = rw (g, x); classes = rw (g, y); held = rw (g, x, y) (held-inside _ (a .ast-paths)) }
 
 not-kind : (k m : ℕ) (h : Head) → h .kind ≡ k → eqb k m ≡ false → h is m ≡ true → ⊥
 not-kind k m h e g x = both-ways (h is m) (rw (e, g)) x
 
-own-identifier : (a o : Around) (h : Head) → h .kind ≡ identifier → Alike a o → own a h end .events ≡ own o h end .events
+own-identifier : (a o : Around) (h : Head) → h .kind ≡ identifier → Around-alike a o → own a h end .events ≡ own o h end .events
 own-identifier a o h k s = rw (k, s .fns, s .classes, s .held)
 
 own-object : (a : Around) (h : Head) → h .kind ≡ object → own a h end .events ≡ []
@@ -65,7 +65,7 @@ module _ (e : Event) where
   no-children a end g x = x
   no-children a (link h cs rest) g x = both-ways false refl g
 
-  refers-identifiers : (a o : Around) (ways : List Way) (c : Chain) → Alike a o → Formed ways c → only-identifiers c ≡ true → Refers a c e → Refers o c e
+  refers-identifiers : (a o : Around) (ways : List Way) (c : Chain) → Around-alike a o → Formed ways c → only-identifiers c ≡ true → Refers a c e → Refers o c e
   refers-identifiers a o ways end s t g x = x
   refers-identifiers a o ways (link h cs rest) s t g x =
     let p = and-parts (h is identifier) (only-identifiers rest) g in
@@ -74,7 +74,7 @@ module _ (e : Event) where
       (λ y. inl (⊎-elim (λ z. absurd (not-kind identifier export-declaration h k refl (z .0))) (λ z. inr (subst (λ (es : List Event). In e es) (own-identifier a o h k s) z)) y))
       (λ y. inr (⊎-elim (λ z. absurd (no-children (inside a h) cs (formed-none cs (rw k at (t .2))) z)) (λ z. inr (refers-identifiers a o (step (h .kind) ways) rest s (t .3) (p .1) z)) y)) x
 
-  refers-object : (a o : Around) (c : Chain) → Alike a o → First-formed c → first-kind c ≡ object → only-identifiers (below c) ≡ true → Refers a (alone c) e → Refers o c e
+  refers-object : (a o : Around) (c : Chain) → Around-alike a o → First-formed c → first-kind c ≡ object → only-identifiers (below c) ≡ true → Refers a (alone c) e → Refers o c e
   refers-object a o end s t k g x = x
   refers-object a o (link h cs rest) s t k g x =
     let i = alike-then (inside a h) a (inside o h) (alike-back a (inside a h) (alike-inside a h object k refl refl))

@@ -5,7 +5,9 @@
 --   Emptied, Unlinked, Restated, Yielded, Unwrapped, Staying      what each verdict tells
 --   Means, means                                                  the verdict of a record tells it
 --   treated-both                                                  a fact on what is left of a record, by whether the rules enter it
---   each-member, with-kind, by-list                               a fact on a record that has a list, by its kind
+--   with-kind, by-list                                            a fact on a record that has a list, by its kind
+--   emptying-kind                                                 the kinds that become Empty
+--   entered-anywhere                                              outside a For it does not matter whether a record comes last
 --   Wraps, wraps                                                  the parts of a Call that wraps an Object
 use Prim.Native.Nat.{ℕ}
 use mathlib.Core.Path.{_≡_, refl, sym, subst}
@@ -16,9 +18,10 @@ use lib.Dec.{eqb}
 use Rattle.std.proofs.shelf.Tests.{cond-both, and-parts, or-cases, both-ways, not-true, eqb-true}
 use Rattle.rules.specs.Tree.{Head, Chain, Name, _is_, flagged, nameOf, isEnd, below, after, first-is, first-flagged, first-symbol, first-name}
 use Rattle.rules.specs.Tree.Chain.{end, link}
-use Rattle.rules.specs.Kinds.{import-item, specifier, fn-declaration, class-declaration, var-declaration, declarator, call-expression, assignment, name-pattern, member, module-root, script-root, block, plain-statement, function-expression, object}
-use Rattle.rules.specs.Removal.{By, Place, Left, Verdict, done, treated, unchanged, only-identifiers, wrapped-object, permitted, retained, unused, never-read, can-drop-binding, first-acts, has-list, name-goes, all-go, wraps-object, fn-goes, class-goes, declarator-goes, specifier-goes, import-emptied, var-emptied, var-restates, assignment-yields, call-unwraps, verdict}
+use Rattle.rules.specs.Kinds.{for-statement, import-item, specifier, fn-declaration, class-declaration, var-declaration, declarator, call-expression, assignment, name-pattern, member, module-root, script-root, block, plain-statement, function-expression, object}
+use Rattle.rules.specs.Removal.{entered, By, Place, Left, Verdict, done, treated, unchanged, only-identifiers, wrapped-object, permitted, retained, unused, never-read, can-drop-binding, first-acts, has-list, name-goes, all-go, wraps-object, fn-goes, class-goes, declarator-goes, specifier-goes, import-emptied, var-emptied, var-restates, assignment-yields, call-unwraps, verdict}
 use Rattle.rules.specs.Removal.Verdict.{stays, sweeps, empties, unlinks, restates, yields, unwraps}
+use Rattle.laws.proofs.Basics.{each-member}
 use Rattle.laws.proofs.Formed.{first-kind}
 
 -- each name of a list is unused
@@ -164,20 +167,25 @@ module _ (by : By) (p : Place) (h : Head) (found children : Chain) where
 
 -- BY CASES
 
+-- a record that becomes Empty is of one of these kinds
+abbrev pub emptying-kinds : List ℕ
+emptying-kinds = fn-declaration ∷ class-declaration ∷ import-item ∷ var-declaration ∷ []
+
+pub emptying-kind : (p : Place) (h : Head) (found children : Chain) → Emptying p h found children → member (h .kind) emptying-kinds ≡ true
+emptying-kind p h found children (fn k x) = rw k
+emptying-kind p h found children (class k x) = rw k
+emptying-kind p h found children (imports k x) = rw k
+emptying-kind p h found children (var k x) = rw k
+
+-- outside a For it does not matter whether a record comes last
+pub entered-anywhere : (p : Place) (h : Head) (children : Chain) (a b : Bool) → eqb (p .parent) for-statement ≡ false → entered p h children a ≡ entered p h children b
+entered-anywhere p h children a b g = rw g
+
 -- a fact on what is left of a record, by whether the rules enter it
 pub treated-both : (b : Bool) (by : By) (p : Place) (h : Head) (found : Chain) (inner : Left) (P : Left → Type 0)
   → (b ≡ true → P (done (verdict by p h found (inner .chain)) h inner)) → (b ≡ false → P (unchanged (link h found end))) → P (treated b by p h found inner)
 treated-both true by p h found inner P f g = f refl
 treated-both false by p h found inner P f g = g refl
-
--- a fact on each number of a list
-abbrev pub Each : (ℕ → Type 0) → List ℕ → Type 0
-Each P [] = Unit {0}
-Each P (k ∷ ks) = P k × Each P ks
-
-pub each-member : (P : ℕ → Type 0) (k : ℕ) (ks : List ℕ) → Each P ks → member k ks ≡ true → P k
-each-member P k [] all g = absurd (both-ways false refl g)
-each-member P k (m ∷ ks) all g = ⊎-elim (λ e. subst P (sym (eqb-true k m e)) (all .0)) (λ y. each-member P k ks (all .1) y) (or-cases (eqb k m) (member k ks) g)
 
 -- a record with another kind
 abbrev pub with-kind : Head → ℕ → Head
