@@ -4,7 +4,7 @@
 --   Left-alike, removed-alike      what is left of twins
 --   by-alike                       tables that tell the same
 use Prim.Native.Nat.{ℕ}
-use mathlib.Core.Path.{_≡_, sym, ap, _∙_, subst, subst₂}
+use mathlib.Core.Path.{_≡_, sym, ap, _∙_, subst₂}
 use mathlib.Core.Bool.{Bool, false, _||_}
 use Rattle.rules.specs.Tree.{Head, Chain, Name, below, unnumbered}
 use Rattle.rules.specs.Tree.Chain.{end, link}
@@ -20,9 +20,9 @@ use Rattle.laws.proofs.UnnumberedRemoval.{treat-unnumbered}
 use Rattle.laws.proofs.OrderCount.{root-of, Turned}
 use Rattle.laws.proofs.OrderCount.Turned.{roots}
 use Rattle.laws.proofs.OrderRemoval.{top, not-in-for, remains, remains-shuffled, changed-shuffled, remains-unnumbered, root-treated}
-use Rattle.laws.proofs.OrderHeads.{nowhere-below, nowhere-treated, asm-string, asm-unmade, asm-free}
-use Rattle.laws.proofs.OrderSlots.{Items, remains-at}
-use Rattle.laws.proofs.OrderStart.{Twins, root-items}
+use Rattle.laws.proofs.OrderNowhere.{nowhere-below, nowhere-treated, asm-string, asm-unmade, asm-free}
+use Rattle.laws.proofs.OrderItems.{Items, remains-at}
+use Rattle.laws.proofs.OrderTwins.{Twins, root-items}
 
 pub record Left-alike (c d : Chain) (x y : Left) : Type 0 where
   pub lost : Same-lost c d (x .chain) (y .chain)

@@ -4,21 +4,21 @@
 --   leads-alike, component-alike      edges lead alike; components have the same names
 --   closed-alike, discount-alike      closed rings; a discounted row
 --   rows-alike                        a name's row after the rings are discounted
-use mathlib.Core.Path.{_≡_, refl, sym, ap, ap₂, _∙_, subst, fun-ext}
+use mathlib.Core.Path.{_≡_, sym, ap, ap₂, _∙_, subst, fun-ext}
 use mathlib.Core.List.{List, [], _∷_}
-use mathlib.Core.Bool.{Bool, true, false, cond, _&&_, _||_, not}
+use mathlib.Core.Bool.{Bool, true, false, _&&_, not}
 use mathlib.Core.Logic.{inl, inr}
 use Rattle.std.proofs.shelf.Tests.{false≢true, and-from, or-cases, or-left, or-right, not-true, not-from-false}
 use Rattle.rules.specs.Tree.{Name, if_then_else_}
 use Rattle.rules.specs.Names.{same, among}
 use Rattle.rules.specs.Tables.{NameRow, EdgeRow, Counts, fresh, look}
-use Rattle.rules.specs.Rings.{Edge, Leads, component, has-other, closed, minus, less, discount-row, discount-rows, discount}
+use Rattle.rules.specs.Rings.{Edge, Leads, component, has-other, closed, minus, less, discount-row, discount}
 use Rattle.rules.specs.Rings.Leads.{here, onward}
 use Rattle.rules.proofs.SameNames.{same-eq, same-refl}
 use Rattle.rules.proofs.Leading.{component-told}
 use Rattle.laws.proofs.Basics.{bool-eq}
-use Rattle.laws.proofs.OrderTables.{some-name, some-entry}
-use Rattle.laws.proofs.OrderEdges.{edge-eq, some-edge, weights}
+use Rattle.laws.proofs.TablesFilled.{some-entry}
+use Rattle.laws.proofs.TablesEdges.{edge-eq, some-edge, weights}
 use Rattle.laws.proofs.RingsDiscount.{look-discount}
 use Rattle.laws.proofs.AlikeTables.{Alike}
 

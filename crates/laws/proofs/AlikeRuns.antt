@@ -7,7 +7,7 @@
 --   order-law                      the law
 use Prim.Native.Nat.{ℕ, zero, suc, _+_}
 use mathlib.Core.Path.{_≡_, refl, sym, ap, ap₂, _∙_, subst, subst₂}
-use mathlib.Core.List.{List, [], _∷_, _++_}
+use mathlib.Core.List.{List, [], _∷_}
 use mathlib.Core.Bool.{Bool, true, false}
 use lib.ListN.{length}
 use Rattle.std.proofs.shelf.Tests.{true≢false, false≢true}
@@ -24,8 +24,8 @@ use Rattle.rules.specs.Calls.Answer.{pass-answer, repeat-answer}
 use Rattle.rules.specs.Law.{begun-on, tree-of, told, Telling, tellings, Reordered, Begun-alike, Same-lost}
 use Rattle.laws.specs.OrderLaw.{Order-law}
 use Rattle.laws.proofs.OrderCount.{reached-turned}
-use Rattle.laws.proofs.OrderWords.{table-sizes, read-back}
-use Rattle.laws.proofs.OrderStart.{Twins, reordered-twins}
+use Rattle.laws.proofs.TablesWords.{table-sizes, read-back}
+use Rattle.laws.proofs.OrderTwins.{Twins, reordered-twins}
 use Rattle.laws.proofs.AlikeFilling.{Held-alike}
 use Rattle.laws.proofs.Runs.{turn}
 use Rattle.laws.proofs.AlikeStates.{tree, Even, handed-even, cleared-even, Both, Ran, pass-even}

@@ -8,16 +8,14 @@
 use Prim.Native.Nat.{ℕ, _+_, _≤_, _<_}
 use native.Mathlib.Omega.{arith}
 use mathlib.Core.Path.{_≡_, refl, subst}
-use mathlib.Core.Bool.{Bool, true, false, cond, _&&_, _||_}
+use mathlib.Core.Bool.{cond}
 use mathlib.Core.Logic.{inl, inr, ⊎-elim}
 use lib.Dec.{eqb}
-use Rattle.std.proofs.shelf.Tests.{cond-both, cases-eq, cases-lt, eq-eqb, ne-eqb}
-use Rattle.rules.specs.Tree.{Head, Chain, _is_, isEnd, below, after, alone, append}
+use Rattle.std.proofs.shelf.Tests.{cases-eq, cases-lt, eq-eqb, ne-eqb}
+use Rattle.rules.specs.Tree.{Chain}
 use Rattle.rules.specs.Tree.Chain.{end, link}
-use Rattle.rules.specs.Kinds.{empty-statement, block, plain-expression}
 use Rattle.rules.specs.Held.{Numbers, Apart}
-use Rattle.rules.specs.Removal.{By, Place, Left, Verdict, place-inside, entered, swept, wrapped-object, become, values, joined, done, verdict, treated, treat}
-use Rattle.rules.specs.Removal.Verdict.{stays, sweeps, empties, unlinks, restates, yields, unwraps}
+use Rattle.rules.specs.Removal.{By, Place, treat}
 use Rattle.laws.specs.KeepsTree.{Keeps-apart, Keeps-numbers}
 use Rattle.laws.proofs.KeepsMeasure.{Measure, treat-sum}
 

@@ -10,31 +10,31 @@
 use Prim.Native.Nat.{ℕ}
 use native.Mathlib.Omega.{arith}
 use mathlib.Core.Path.{_≡_, refl, sym, subst}
-use mathlib.Core.Bool.{Bool, true, false, not, _&&_, _||_}
+use mathlib.Core.Bool.{Bool, true, false, not, _&&_}
 use mathlib.Core.List.{List, [], _∷_}
 use mathlib.Core.Logic.{⊎-elim}
 use lib.Dec.{eqb}
-use Rattle.std.proofs.shelf.Tests.{both-ways, cases-bool, and-parts, or-cases, or-parts, not-true, not-false, eqb-true, eqb-false}
+use Rattle.std.proofs.shelf.Tests.{both-ways, cases-bool, or-parts, not-true, not-false, eqb-false}
 use Rattle.std.proofs.shelf.Ways.{tells}
-use Rattle.rules.specs.Tree.{Head, Chain, _is_, isEnd, below, after, first-is, first-flagged, first-symbol, alone, append}
+use Rattle.rules.specs.Tree.{Head, Chain, _is_, isEnd, below, after, alone, append}
 use Rattle.rules.specs.Tree.Chain.{end, link}
-use Rattle.rules.specs.Kinds.{member, module-root, script-root, import-item, empty-statement, block, expression-statement, fn-declaration, class-declaration, var-declaration, for-statement, with-statement, export-default, delete-expression, declarator, specifier, object, call-expression, assignment, function-expression, plain-statement, expression, statement, item}
+use Rattle.rules.specs.Kinds.{member, import-item, empty-statement, expression-statement, fn-declaration, class-declaration, var-declaration, for-statement, with-statement, export-default, delete-expression, declarator, specifier, object, call-expression, assignment, expression, statement, item}
 use Rattle.rules.specs.Grammar.{Way, words-fit, assigned, children-of, step, root}
 use Rattle.rules.specs.Grammar.Part.{one}
 use Rattle.rules.specs.Held.{Formed}
-use Rattle.rules.specs.Removal.{By, Place, Left, Verdict, at-root, place-inside, entered, has-list, wraps-object, wrapped-object, returns-object, swept, verdict, done, treated, treat}
+use Rattle.rules.specs.Removal.{By, Place, Left, Verdict, at-root, place-inside, entered, has-list, wrapped-object, swept, verdict, done, treated, treat}
 use Rattle.rules.specs.Removal.Verdict.{stays, sweeps, empties, unlinks, restates, yields, unwraps}
 use Rattle.laws.specs.KeepsTree.{Keeps-formed}
 use Rattle.laws.proofs.Verdicts.{Means, means, Emptying, Unlinking, by-list, wraps}
 use Rattle.laws.proofs.Verdicts.Emptying.{fn, class, imports, var}
 use Rattle.laws.proofs.Verdicts.Unlinking.{declares, specifies}
-use Rattle.laws.proofs.Formed.{first-kind, list-of, formed-one, Record-formed, First-formed, first-formed, below-formed}
+use Rattle.laws.proofs.Formed.{first-kind, formed-one, Record-formed, First-formed, first-formed, below-formed}
 use Rattle.laws.proofs.KeepsWays.{formed-filled}
 use Rattle.laws.proofs.KeepsFair.{stand-ins}
 use Rattle.laws.proofs.KeepsTable.{Bears, Stands, declarators, inner-ways, bears-fair, bears-inside, swap-moving, swap-declaring, swap-var, drop-formed}
 use Rattle.laws.proofs.KeepsTable.Bears.{anywhere}
 use Rattle.laws.proofs.KeepsLists.{swept-formed, inner-formed, children-formed}
-use Rattle.laws.proofs.KeepsValues.{exported-filled, First-kept, first-kept, restated-formed}
+use Rattle.laws.proofs.KeepsDeclarators.{exported-filled, First-kept, first-kept, restated-formed}
 
 -- such a record stands where its kind may
 put : (ways : List Way) (h : Head) (children onward : Chain) → Record-formed h children → Stands ways (h .kind) onward → Formed ways (link h children onward)

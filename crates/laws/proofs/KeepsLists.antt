@@ -11,7 +11,7 @@ use Rattle.std.proofs.shelf.Tests.{cond-both, cond-false, both-ways, cases-bool
 use Rattle.rules.specs.Tree.{Head, Chain, _is_, isEnd}
 use Rattle.rules.specs.Tree.Chain.{end, link}
 use Rattle.rules.specs.Kinds.{empty-statement, block, var-declaration, declarator, only}
-use Rattle.rules.specs.Grammar.{Way, words-fit, children-of, step, misplaced}
+use Rattle.rules.specs.Grammar.{Way, children-of}
 use Rattle.rules.specs.Grammar.Part.{one, many}
 use Rattle.rules.specs.Held.{Formed}
 use Rattle.rules.specs.Removal.{swept, var-emptied}

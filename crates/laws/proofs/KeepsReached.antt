@@ -9,15 +9,15 @@
 use Prim.Native.Nat.{_+_, _≤_, _<_}
 use native.Mathlib.Omega.{arith}
 use mathlib.Core.Path.{_≡_, refl}
-use mathlib.Core.Bool.{Bool, true, false, _&&_, _||_}
+use mathlib.Core.Bool.{Bool, true, false}
 use mathlib.Core.Logic.{⊎-elim}
 use Rattle.std.proofs.shelf.Tests.{cond-both, and-parts, both-ways, or-cases}
-use Rattle.rules.specs.Tree.{Head, Chain, _is_, flagged, isEnd, below, after, first-is, alone, append, reached}
+use Rattle.rules.specs.Tree.{Head, Chain, flagged, isEnd, after, first-is, alone, reached}
 use Rattle.rules.specs.Tree.Chain.{end, link}
-use Rattle.rules.specs.Kinds.{empty-statement, block, plain-expression, name-pattern}
+use Rattle.rules.specs.Kinds.{plain-expression, name-pattern}
 use Rattle.rules.specs.Grammar.{children-of, step, may-end}
 use Rattle.rules.specs.Held.{Formed}
-use Rattle.rules.specs.Removal.{By, Place, Left, Verdict, place-inside, entered, swept, wrapped-object, become, values, joined, done, verdict, treated, treat, all-go, name-goes}
+use Rattle.rules.specs.Removal.{By, Place, Left, Verdict, place-inside, entered, wrapped-object, become, values, joined, done, verdict, treated, treat, all-go, name-goes}
 use Rattle.rules.specs.Removal.Verdict.{stays, sweeps, empties, unlinks, restates, yields, unwraps}
 use Rattle.laws.specs.KeepsTree.{Fewer-reached, Lost-reached}
 use Rattle.laws.proofs.KeepsWays.{formed-filled}

@@ -21,10 +21,10 @@ use Rattle.rules.specs.Names.{same, among, namesOf, binds, keep, Under, under, 
 use Rattle.rules.specs.Tables.{some-row}
 use Rattle.rules.proofs.SameNames.{same-eq, same-refl}
 use Rattle.laws.proofs.Basics.{or-swap, each-member}
-use Rattle.laws.proofs.OrderRows.{with-row, some-with-row}
-use Rattle.laws.proofs.OrderSizes.{Single, single-with-row, equal-sizes}
-use Rattle.laws.proofs.OrderRoom.{all-declared}
-use Rattle.laws.proofs.OrderHeads.{Nowhere}
+use Rattle.laws.proofs.TablesRows.{with-row, some-with-row}
+use Rattle.laws.proofs.TablesSizes.{Single, single-with-row, equal-sizes}
+use Rattle.laws.proofs.TablesRoom.{all-declared}
+use Rattle.laws.proofs.OrderNowhere.{Nowhere}
 
 -- THE SAME NAMES
 

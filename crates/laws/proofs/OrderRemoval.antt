@@ -17,7 +17,7 @@ use Rattle.rules.specs.Law.{Shuffled}
 use Rattle.rules.specs.Law.Shuffled.{none, past, swap, again}
 use Rattle.laws.proofs.Basics.{cond-ap, or-swap}
 use Rattle.laws.proofs.Verdicts.{entered-anywhere}
-use Rattle.laws.proofs.Shuffles.{shuffled-after, exchange}
+use Rattle.laws.proofs.OrderShuffles.{shuffled-after, exchange}
 use Rattle.laws.proofs.UnnumberedRemoval.{swept-unnumbered, treat-unnumbered}
 use Rattle.laws.proofs.OrderCount.{root-of}
 

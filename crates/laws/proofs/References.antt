@@ -23,8 +23,8 @@ use Rattle.laws.proofs.Basics.{in-append}
 use Rattle.laws.proofs.KeepsFormed.{keeps-formed}
 use Rattle.laws.proofs.Refers.{Refers}
 use Rattle.laws.proofs.RefersKept.{treat-refers}
-use Rattle.laws.proofs.Tallied.{count-refers, refers-count}
-use Rattle.laws.proofs.Insides.{holder-inside}
+use Rattle.laws.proofs.RefersCounted.{count-refers, refers-count}
+use Rattle.laws.proofs.RefersInside.{holder-inside}
 use Rattle.laws.proofs.Freed.{Held-in-ring, unused-within, unread-within, taken-unused, gave-unread}
 use Rattle.laws.proofs.Runs.{Later, later-then, Ready, begun-ready, Full, Result, pass-result, result-ready, turn-cases, call-cases, call-ready}
 use Rattle.laws.proofs.Runs.Later.{here, onward}

@@ -20,7 +20,7 @@ use Rattle.rules.specs.Removal.{swept, become, values, joined}
 use Rattle.rules.specs.Law.{In}
 use Rattle.laws.proofs.Formed.{first-kind, listed, declarator-value}
 use Rattle.laws.proofs.KeepsTable.{declarators}
-use Rattle.laws.proofs.Exported.{Exports, other-kind}
+use Rattle.laws.proofs.RefersExported.{Exports, other-kind}
 
 -- the record h refers: for a name that it exports, or by itself
 abbrev pub Here : Around → Head → Chain → Event → Type 0

@@ -1,6 +1,5 @@
 -- Counted references never grow: each reference of the tree that a removal leaves, with its holders and its record, stood in the
 -- tree that it found.
-use Prim.Native.Nat.{ℕ}
 use mathlib.Core.Path.{_≡_, refl, sym, subst}
 use mathlib.Core.Bool.{false}
 use mathlib.Core.List.{List}
@@ -18,9 +17,9 @@ use Rattle.laws.proofs.Verdicts.{Means, means, treated-both}
 use Rattle.laws.proofs.Formed.{assigned-value, first-formed}
 use Rattle.laws.proofs.KeepsTable.{inner-ways}
 use Rattle.laws.proofs.KeepsFormed.{inner-kept}
-use Rattle.laws.proofs.Exported.{Exports, exports-swept, treat-exports}
+use Rattle.laws.proofs.RefersExported.{Exports, exports-swept, treat-exports}
 use Rattle.laws.proofs.Refers.{Here, Refers, with-role, inside-var, refers-append, refers-swept, refers-after, refers-moved, refers-joined}
-use Rattle.laws.proofs.Unwraps.{refers-unwrapped}
+use Rattle.laws.proofs.RefersUnwrapped.{refers-unwrapped}
 
 module _ (e : Event) where
   here-kept : (a : Around) (h : Head) (cs bs : Chain) → ((g : Head) → Exports g bs → Exports g cs) → Here a h bs e → Here a h cs e

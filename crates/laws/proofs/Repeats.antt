@@ -26,9 +26,9 @@ use Rattle.rules.specs.Calls.Repeated.{repeated, stopped}
 use Rattle.rules.specs.Law.{begun-on, tree-of, Removable, Counted, Repeat-kept}
 use Rattle.laws.specs.RepeatsLaw.{Repeats-law, Bound-never-ends}
 use Rattle.laws.proofs.Basics.{refused-fine}
-use Rattle.laws.proofs.Numbered.{Numbered}
+use Rattle.laws.proofs.RunsNumbered.{Numbered}
 use Rattle.laws.proofs.KeepsReached.{lost-reached}
-use Rattle.laws.proofs.Removables.{pass-used}
+use Rattle.laws.proofs.RepeatsUsed.{pass-used}
 use Rattle.laws.proofs.Runs.{Ready, begun-ready, Full, pass-result, result-ready, turn-cases, call-cases, called-one}
 use Rattle.laws.proofs.Runs.Result.{one-made}
 

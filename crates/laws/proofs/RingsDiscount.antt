@@ -4,16 +4,15 @@
 --   look-discount               a name's row after the rings are discounted
 --   open-row, counted-row       outside closed rings it is as counted; it is counted where it was
 use mathlib.Core.Path.{_≡_, refl, sym, ap, subst, _∙_}
-use mathlib.Core.Bool.{Bool, true, false, cond, _||_}
+use mathlib.Core.Bool.{true, false, cond, _||_}
 use mathlib.Core.List.{List, [], _∷_}
-use mathlib.Core.Logic.{_⊎_, inl, inr, ⊎-elim}
 use Rattle.std.proofs.shelf.Tests.{cond-both, both-ways, or-parts}
 use Rattle.rules.specs.Tree.{Name, if_then_else_}
 use Rattle.rules.specs.Names.{same}
 use Rattle.rules.specs.Tables.{NameRow, Counts, fresh, look}
 use Rattle.rules.specs.Rings.{component, closed, less, discount-row, discount-rows, discount}
 use Rattle.rules.proofs.SameNames.{same-eq}
-use Rattle.laws.proofs.OrderTables.{some-name}
+use Rattle.laws.proofs.TablesFilled.{some-name}
 
 pub look-name : (n : Name) (rows : List NameRow) → look n rows .name ≡ n
 look-name n [] = refl

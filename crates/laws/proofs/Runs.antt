@@ -11,8 +11,7 @@ use mathlib.Core.Path.{_≡_, refl, sym, ap, subst, _∙_}
 use mathlib.Core.Bool.{Bool, true, false}
 use mathlib.Core.List.{List, [], _∷_, _++_}
 use mathlib.Core.Logic.{⊎-elim}
-use Rattle.rules.specs.Tree.{Head, Chain, Name, isEnd, append}
-use Rattle.rules.specs.Tree.Chain.{end, link}
+use Rattle.rules.specs.Tree.{Chain, Name}
 use Rattle.rules.specs.Refusals.{Outcome}
 use Rattle.rules.specs.Refusals.Outcome.{fine, refused}
 use Rattle.rules.specs.Check.{check}
@@ -20,8 +19,7 @@ use Rattle.rules.specs.Grammar.{root}
 use Rattle.rules.specs.Held.{Formed}
 use Rattle.rules.specs.Counting.{events-of}
 use Rattle.rules.specs.Tables.{Room, room, fill, no-rows, read-declared}
-use Rattle.rules.specs.Removal.{Config, By, Place, Left, Verdict, at-root, place-inside, entered, has-list, swept, verdict, done, treated, treat}
-use Rattle.rules.specs.Removal.Verdict.{sweeps}
+use Rattle.rules.specs.Removal.{Config, By, at-root, treat}
 use Rattle.rules.specs.Calls.{State, Handed, Filled, Pass, After, Call, Answer, handed-fit, cleared, filled-up, fill-declared, fill-tables, pass-by, passed, pass-filled, pass-checked, pass-once, passes-from, reached-by, call-fitting, unfit-answer, call, calls}
 use Rattle.rules.specs.Calls.Call.{pass, reset, repeat}
 use Rattle.rules.specs.Law.{In, begun-on}
@@ -29,9 +27,9 @@ use Rattle.rules.proofs.Sounds.{check-sound}
 use Rattle.rules.proofs.Fuel.{then-fine}
 use Rattle.laws.proofs.KeepsFormed.{keeps-formed}
 use Rattle.laws.proofs.Basics.{fine-eq, elim-both}
-use Rattle.laws.proofs.OrderTables.{filled}
-use Rattle.laws.proofs.OrderRoom.{fill-filled}
-use Rattle.laws.proofs.Numbered.{Numbered, numbered-check, numbered-tables}
+use Rattle.laws.proofs.TablesFilled.{filled}
+use Rattle.laws.proofs.TablesRoom.{fill-filled}
+use Rattle.laws.proofs.RunsNumbered.{Numbered, numbered-check, numbered-tables}
 
 -- removals one after another, each by tables of its own
 pub data Later : Chain → Chain → Type 0 where

@@ -4,7 +4,7 @@
 --
 --   event-row, event-edge      by an event
 --   counted-only               back
-use mathlib.Core.Path.{_≡_, refl, sym, ap, subst, _∙_}
+use mathlib.Core.Path.{_≡_, refl, sym, subst, _∙_}
 use mathlib.Core.Bool.{Bool, true, false}
 use mathlib.Core.List.{List, [], _∷_}
 use mathlib.Core.Logic.{_⊎_, inl, inr, ⊎-elim}
@@ -15,8 +15,8 @@ use Rattle.rules.specs.Counting.{Event}
 use Rattle.rules.specs.Tables.{NameRow, Counts, no-rows, look}
 use Rattle.rules.specs.Law.{In, Counted}
 use Rattle.rules.proofs.SameNames.{same-eq, same-refl}
-use Rattle.laws.proofs.OrderTables.{adds, entered, filled, seen, look-entered}
-use Rattle.laws.proofs.OrderEdges.{held-edge, some-edge, some-edge-entered}
+use Rattle.laws.proofs.TablesFilled.{adds, entered, filled, look-entered}
+use Rattle.laws.proofs.TablesEdges.{held-edge, some-edge, some-edge-entered}
 
 -- ROWS
 

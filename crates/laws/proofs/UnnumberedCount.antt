@@ -18,7 +18,7 @@ use Rattle.rules.specs.Counting.{Event, Found, Around, Role, _followed-by_, hol
 use Rattle.rules.specs.Counting.Role.{declared-here, written, read-and-written}
 use Rattle.rules.specs.Tables.{Counts}
 use Rattle.laws.proofs.Basics.{cond-ap}
-use Rattle.laws.proofs.OrderTables.{entered, filled}
+use Rattle.laws.proofs.TablesFilled.{entered, filled}
 
 abbrev pub unnumbered-heads : List Head → List Head
 unnumbered-heads [] = []

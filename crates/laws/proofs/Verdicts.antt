@@ -10,12 +10,11 @@
 --   entered-anywhere                                              outside a For it does not matter whether a record comes last
 --   Wraps, wraps                                                  the parts of a Call that wraps an Object
 use Prim.Native.Nat.{ℕ}
-use mathlib.Core.Path.{_≡_, refl, sym, subst}
+use mathlib.Core.Path.{_≡_, refl}
 use mathlib.Core.Bool.{Bool, true, false, not, _||_}
-use mathlib.Core.Logic.{⊎-elim}
 use mathlib.Core.List.{List, [], _∷_}
 use lib.Dec.{eqb}
-use Rattle.std.proofs.shelf.Tests.{cond-both, and-parts, or-cases, both-ways, not-true, eqb-true}
+use Rattle.std.proofs.shelf.Tests.{cond-both, and-parts, both-ways, not-true, eqb-true}
 use Rattle.rules.specs.Tree.{Head, Chain, Name, _is_, flagged, nameOf, isEnd, below, after, first-is, first-flagged, first-symbol, first-name}
 use Rattle.rules.specs.Tree.Chain.{end, link}
 use Rattle.rules.specs.Kinds.{for-statement, import-item, specifier, fn-declaration, class-declaration, var-declaration, declarator, call-expression, assignment, name-pattern, member, module-root, script-root, block, plain-statement, function-expression, object}

@@ -18,8 +18,8 @@ use Rattle.rules.specs.Counting.{Event}
 use Rattle.rules.specs.Tables.{NameRow, EdgeRow, Counts, some-row, fresh, look, row-of, edge-of, reads, writes}
 use Rattle.rules.proofs.SameNames.{same-eq}
 use Rattle.laws.proofs.Basics.{or-swap, or-twice, or-turn, cond-ap, cond-nest, cond-commutes, by-same}
-use Rattle.laws.proofs.Shuffles.{Commutes}
-use Rattle.laws.proofs.OrderRows.{with-row, with-change, some-with-row, some-with-change}
+use Rattle.laws.proofs.OrderShuffles.{Commutes}
+use Rattle.laws.proofs.TablesRows.{with-row, with-change, some-with-row, some-with-change}
 
 -- an edge's row before anything is counted
 abbrev pub new-edge : (from to : Name) → EdgeRow

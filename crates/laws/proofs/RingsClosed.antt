@@ -1,18 +1,18 @@
 -- Closed rings: each edge to a name of a closed ring comes from its ring, and the name is no entry.
 --
 --   closed-edge, closed-entry      the edges to such a name; its row
-use mathlib.Core.Path.{_≡_, refl, sym, ap, subst, _∙_}
+use mathlib.Core.Path.{_≡_, refl, sym, subst}
 use mathlib.Core.Bool.{Bool, true, false, not, _&&_}
 use mathlib.Core.List.{List, [], _∷_}
-use mathlib.Core.Logic.{_⊎_, inl, inr, ⊎-elim}
-use Rattle.std.proofs.shelf.Tests.{cond-both, and-parts, and-from, and-cases, both-ways, or-parts, or-left, or-right, cases-bool, not-true, not-from-false}
+use mathlib.Core.Logic.{⊎-elim}
+use Rattle.std.proofs.shelf.Tests.{and-parts, and-from, both-ways, or-left, or-right, cases-bool, not-true, not-from-false}
 use Rattle.rules.specs.Tree.{Name, if_then_else_}
 use Rattle.rules.specs.Names.{same, among}
 use Rattle.rules.specs.Tables.{NameRow, EdgeRow, Counts, some-row, look, fresh}
-use Rattle.rules.specs.Rings.{Edge, component, has-other, has-entry, led-into, closed, less, discount-row, discount-rows, discount}
+use Rattle.rules.specs.Rings.{component, has-other, has-entry, led-into, closed}
 use Rattle.rules.specs.Rings.Leads.{here}
 use Rattle.rules.proofs.Leading.{component-told}
-use Rattle.laws.proofs.OrderEdges.{some-edge}
+use Rattle.laws.proofs.TablesEdges.{some-edge}
 use Rattle.laws.proofs.RingsDiscount.{look-name}
 
 -- a name is of its own component

@@ -12,7 +12,7 @@ use Rattle.std.proofs.shelf.Tests.{cond-both, and-parts, both-ways, or-cases, o
 use Rattle.rules.specs.Tree.{Head, Chain, if_then_else_, _is_, isEnd, append}
 use Rattle.rules.specs.Tree.Chain.{end, link}
 use Rattle.rules.specs.Kinds.{export-declaration, empty-statement, block, fn-declaration, class-declaration, var-declaration, declarator, function, identifier, export-name, arrow, call-expression, name-pattern, property-name}
-use Rattle.rules.specs.Grammar.{Way, assigned, children-of, step}
+use Rattle.rules.specs.Grammar.{Way, children-of, step}
 use Rattle.rules.specs.Held.{Formed}
 use Rattle.rules.specs.Names.{Under, under, under-nothing, declares, declaring, declared-below, binds, nests, keep, bound, exported, namesOf, distinct}
 use Rattle.rules.specs.Counting.{Found, Around, nothing, _followed-by_, reading, writing, readings, marks, named-here, calls-eval, opens, inside, count}

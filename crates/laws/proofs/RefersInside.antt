@@ -14,9 +14,9 @@ use Rattle.rules.specs.Counting.{Event, Found, Around, Role, refer, holders, pu
 use Rattle.rules.specs.Counting.Role.{declared-here, written, read-and-written}
 use Rattle.rules.specs.Law.{In, Reference, Inside}
 use Rattle.laws.proofs.Basics.{in-append}
-use Rattle.laws.proofs.Exported.{Exports}
+use Rattle.laws.proofs.RefersExported.{Exports}
 use Rattle.laws.proofs.Refers.{Here, Refers}
-use Rattle.laws.proofs.Tallied.{count-refers}
+use Rattle.laws.proofs.RefersCounted.{count-refers}
 
 -- a name is on one of the paths
 abbrev On-paths : Name → List (List Name) → Type 0

@@ -11,7 +11,7 @@ use Rattle.rules.specs.Grammar.{Way, words-fit, children-of, step, misplaced, m
 use Rattle.rules.specs.Refusals.{Outcome, andThen, bad-link, too-deep, bad-record, declared-full, names-full, edges-full}
 use Rattle.rules.specs.Refusals.Outcome.{fine, refused}
 use Rattle.rules.specs.Words.{first-child, next, headAt, records}
-use Rattle.rules.specs.Check.{Read, most-nesting, tree-fits, take, stop, walk, check}
+use Rattle.rules.specs.Check.{most-nesting, tree-fits, take, stop, walk, check}
 use Rattle.rules.specs.Names.{same, declared}
 use Rattle.rules.specs.Counting.{Event, events-of}
 use Rattle.rules.specs.Tables.{EdgeRow, Counts, Room, need, declare, fresh, row-of, edge-of, need-name, need-edge, grow-edge, hold, enter, fill, no-rows, some-row}

@@ -16,8 +16,8 @@ use Rattle.std.proofs.shelf.Tests.{true≢false, false≢true, cases-bool, or-c
 use Rattle.rules.specs.Tree.{Head, Chain, if_then_else_, below, unnumbered}
 use Rattle.rules.specs.Tree.Chain.{end, link}
 use Rattle.rules.specs.Kinds.{member, known, module-root, script-root, import-item, export-declaration, export-list, export-default, expression, statement, item}
-use Rattle.rules.specs.Grammar.{Way, named, flags-fit, name-fits, words-fit, children-of, step, misplaced, root}
-use Rattle.rules.specs.Grammar.Part.{one, many}
+use Rattle.rules.specs.Grammar.{Way, named, flags-fit, name-fits, words-fit, children-of, step, root}
+use Rattle.rules.specs.Grammar.Part.{one}
 use Rattle.rules.specs.Held.{Numbers, Apart, Formed}
 use Rattle.rules.specs.Law.{Shuffled, root-kind, item-at, Reordered}
 use Rattle.rules.proofs.Sounds.{check-sound}
@@ -25,8 +25,8 @@ use Rattle.laws.proofs.Basics.{each-member}
 use Rattle.laws.proofs.Formed.{list-of, listed}
 use Rattle.laws.proofs.OrderCount.{root-of, Turned}
 use Rattle.laws.proofs.OrderCount.Turned.{roots}
-use Rattle.laws.proofs.OrderHeads.{Nowhere, asm-string, asm-nowhere}
-use Rattle.laws.proofs.OrderSlots.{Items}
+use Rattle.laws.proofs.OrderNowhere.{Nowhere, asm-string, asm-nowhere}
+use Rattle.laws.proofs.OrderItems.{Items}
 use Rattle.laws.proofs.OrderDeclared.{unnamed}
 
 -- roots over the same items in another order, formed by the table of kinds, each record once, without 'use asm'

@@ -16,9 +16,9 @@ use Rattle.rules.specs.Tables.{EdgeRow, Counts, some-row, edge-of, reads, write
 use Rattle.rules.specs.Rings.{total}
 use Rattle.rules.proofs.SameNames.{same-eq, same-refl}
 use Rattle.laws.proofs.Basics.{or-swap, or-twice}
-use Rattle.laws.proofs.Shuffles.{Commutes}
-use Rattle.laws.proofs.OrderRows.{with-change, some-with-change, total-with-change}
-use Rattle.laws.proofs.OrderTables.{new-edge, adds-edge, held-by, all-held, entered}
+use Rattle.laws.proofs.OrderShuffles.{Commutes}
+use Rattle.laws.proofs.TablesRows.{with-change, some-with-change, total-with-change}
+use Rattle.laws.proofs.TablesFilled.{new-edge, adds-edge, held-by, all-held, entered}
 
 -- an edge is the one between two names
 pub edge-eq : (a b : Name) (r : EdgeRow) → edge-of a b r ≡ true → (a ≡ r .from) × (b ≡ r .to)

@@ -14,7 +14,7 @@ use Rattle.std.proofs.shelf.Tests.{true≢false, false≢true, cases-bool, or-l
 use Rattle.rules.specs.Tree.{if_then_else_}
 use Rattle.rules.specs.Tables.{some-row}
 use Rattle.laws.proofs.Basics.{or-twice, by-equal}
-use Rattle.laws.proofs.OrderRows.{with-row, with-change, some-with-row, some-with-change}
+use Rattle.laws.proofs.TablesRows.{with-row, with-change, some-with-row, some-with-change}
 
 module _ {Row K : Type 0} (key : Row → K) (eq : K → K → Bool) where
   -- a row has this key

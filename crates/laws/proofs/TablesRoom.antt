@@ -22,9 +22,9 @@ use Rattle.rules.specs.Names.{same}
 use Rattle.rules.specs.Counting.{Event}
 use Rattle.rules.specs.Tables.{Counts, Room, no-rows, some-row, need, fresh, row-of, edge-of, need-name, need-edge, grow-edge, grow-name, hold, enter, fill, declare}
 use Rattle.rules.proofs.SameNames.{same-refl}
-use Rattle.laws.proofs.OrderRows.{with-row, with-change, change-with, with-row-there, with-row-new}
-use Rattle.laws.proofs.OrderTables.{new-edge, adds-edge, adds, held-by, all-held, entered, filled}
-use Rattle.laws.proofs.OrderEdges.{edge-refl}
+use Rattle.laws.proofs.TablesRows.{with-row, with-change, change-with, with-row-there, with-row-new}
+use Rattle.laws.proofs.TablesFilled.{new-edge, adds-edge, adds, held-by, all-held, entered, filled}
+use Rattle.laws.proofs.TablesEdges.{edge-refl}
 
 -- the result a if the test passes, else a refusal
 abbrev pub Bounded : {A : Type 0} → Bool → A → Outcome A → Type 0

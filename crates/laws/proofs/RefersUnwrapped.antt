@@ -6,11 +6,11 @@ use mathlib.Core.Bool.{Bool, true, false}
 use mathlib.Core.List.{List, [], _∷_}
 use mathlib.Core.Logic.{inl, inr, ⊎-elim}
 use lib.Dec.{eqb}
-use Rattle.std.proofs.shelf.Tests.{and-parts, both-ways, eqb-true, eqb-false}
+use Rattle.std.proofs.shelf.Tests.{and-parts, both-ways, eqb-true}
 use Rattle.rules.specs.Tree.{Head, Chain, Name, if_then_else_, _is_, isEnd, below, alone}
 use Rattle.rules.specs.Tree.Chain.{end, link}
 use Rattle.rules.specs.Kinds.{export-declaration, fn-declaration, class-declaration, block, plain-statement, function, identifier, function-expression, object, call-expression}
-use Rattle.rules.specs.Grammar.{Way, assigned, children-of, step}
+use Rattle.rules.specs.Grammar.{Way, children-of, step}
 use Rattle.rules.specs.Held.{Formed}
 use Rattle.rules.specs.Counting.{Event, Around, holders, own, inside}
 use Rattle.rules.specs.Removal.{only-identifiers, wrapped-object}

@@ -5,13 +5,12 @@
 --   nowhere-treated                nor of what is left of it
 --   asm-nowhere, asm-free          no string 'use asm', so no list that begins with it
 use mathlib.Core.Path.{_≡_, refl}
-use mathlib.Core.Bool.{Bool, true, false, _&&_, _||_}
+use mathlib.Core.Bool.{Bool, true, false, _&&_}
 use lib.Dec.{eqb}
-use Rattle.rules.specs.Tree.{Head, Chain, if_then_else_, _is_, isEnd, below, after, alone, append}
+use Rattle.rules.specs.Tree.{Head, Chain, _is_, below}
 use Rattle.rules.specs.Tree.Chain.{end, link}
-use Rattle.rules.specs.Kinds.{empty-statement, block, expression-statement, plain-expression, literal, asm-symbol}
-use Rattle.rules.specs.Removal.{By, Place, Left, Verdict, place-inside, asm, entered, swept, wrapped-object, verdict, become, values, joined, done, treated, treat}
-use Rattle.rules.specs.Removal.Verdict.{stays, sweeps, empties, unlinks, restates, yields, unwraps}
+use Rattle.rules.specs.Kinds.{empty-statement, expression-statement, plain-expression, literal, asm-symbol}
+use Rattle.rules.specs.Removal.{By, Place, asm, become, treat}
 use Rattle.rules.specs.Law.{Without-asm}
 use Rattle.laws.proofs.KeepsEverywhere.{Everywhere, treat-all}
 

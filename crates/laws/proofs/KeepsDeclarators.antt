@@ -7,7 +7,6 @@
 --   First-kept, first-kept         the first one that is left was not to go
 --   values-formed, joined-formed   the values are expressions, and they join to one
 --   kept-valued, restated-formed   one that stays although its name can go has a value; what a Var becomes has its child
-use Prim.Native.Nat.{ℕ}
 use native.Mathlib.Omega.{arith}
 use mathlib.Core.Path.{_≡_, refl, sym, subst, _∙_}
 use mathlib.Core.Bool.{Bool, true, false, not, _&&_, _||_}
@@ -18,7 +17,7 @@ use Rattle.std.proofs.shelf.Tests.{cond-both, both-ways, cases-bool, and-parts,
 use Rattle.rules.specs.Tree.{Head, Chain, _is_, flagged, isEnd, after, alone, append}
 use Rattle.rules.specs.Tree.Chain.{end, link}
 use Rattle.rules.specs.Kinds.{expression, pattern, plain-expression, var-declaration, for-statement, with-statement, declarator, only}
-use Rattle.rules.specs.Grammar.{Way, children-of, step, misplaced}
+use Rattle.rules.specs.Grammar.{Way}
 use Rattle.rules.specs.Grammar.Part.{one, maybe}
 use Rattle.rules.specs.Held.{Formed}
 use Rattle.rules.specs.Removal.{By, Place, Left, Verdict, place-inside, entered, has-list, first-acts, name-goes, all-go, declarator-goes, become, values, joined, verdict, done, treated, treat}

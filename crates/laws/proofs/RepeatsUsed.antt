@@ -3,7 +3,6 @@
 --
 --   treat-used          a removal that changes nothing leaves only used removable functions
 --   pass-used           so they are counted
-use Prim.Native.Nat.{ℕ}
 use mathlib.Core.Path.{_≡_, refl, sym, subst, _∙_}
 use mathlib.Core.Bool.{Bool, true, false, not}
 use mathlib.Core.List.{List}
@@ -26,7 +25,7 @@ use Rattle.laws.proofs.Verdicts.{Means, means, treated-both, by-list, entered-
 use Rattle.laws.proofs.TablesTold.{counted-only}
 use Rattle.laws.proofs.RingsDiscount.{counted-row}
 use Rattle.laws.proofs.Runs.{Full}
-use Rattle.laws.proofs.Unchanged.{treat-same}
+use Rattle.laws.proofs.RepeatsUnchanged.{treat-same}
 
 list-no-for : (h : Head) → has-list h ≡ true → eqb (h .kind) for-statement ≡ false
 list-no-for h g = by-list (λ (h : Head). eqb (h .kind) for-statement ≡ false) h g refl refl refl
