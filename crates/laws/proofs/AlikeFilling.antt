@@ -18,12 +18,12 @@ use Rattle.rules.specs.Names.{among, declared}
 use Rattle.rules.specs.Counting.{events-of}
 use Rattle.rules.specs.Tables.{Room, no-rows, fill, declared-width, declared-in-words, read-declared}
 use Rattle.rules.specs.Calls.{Filled, declared-after, fill-declared, fill-tables}
-use Rattle.laws.proofs.TablesSingle.{tidy-filled, names-sizes, edges-sizes}
+use Rattle.laws.proofs.AlikeSizes.{tidy-filled, names-sizes, edges-sizes}
 use Rattle.laws.proofs.TablesRoom.{Bounded, then-bounded, all-declared, declare-bounded, fits, fill-bounded}
 use Rattle.laws.proofs.OrderCount.{Turned, counts, counts-turned, names-turned}
 use Rattle.laws.proofs.OrderNowhere.{Nowhere}
 use Rattle.laws.proofs.OrderDeclared.{declared-names, declared-sizes, unnamed, symbols-of-tree}
-use Rattle.laws.proofs.TablesWords.{table-sizes, declared-words-sizes, read-back}
+use Rattle.laws.proofs.OrderWords.{table-sizes, declared-words-sizes, read-back}
 
 -- the rows of declared that a pass has
 abbrev pub declared-rows : Chain → (held : List Name) → List Name

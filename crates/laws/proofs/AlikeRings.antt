@@ -40,13 +40,13 @@ leads-more : (es fs : List EdgeRow) → ((a b : Name) → Edge es a b → Edge f
 leads-more es fs h a here = here
 leads-more es fs h a (onward {b} {c} l e) = onward (leads-more es fs h a l) (h b c e)
 
-pub leads-alike : (es fs : List EdgeRow) → ((p : Name → Name → Bool) → some-edge p es ≡ some-edge p fs) → (a b : Name) → Leads es a b → Leads fs a b
+leads-alike : (es fs : List EdgeRow) → ((p : Name → Name → Bool) → some-edge p es ≡ some-edge p fs) → (a b : Name) → Leads es a b → Leads fs a b
 leads-alike es fs h a b = leads-more es fs (λ x y e. found-edge fs x y (sym (h (is x y)) ∙ edge-found es x y e)) a
 
 component-more : (es fs : List EdgeRow) → ((p : Name → Name → Bool) → some-edge p es ≡ some-edge p fs) → (a b : Name) → among b (component es a) ≡ true → among b (component fs a) ≡ true
 component-more es fs h a b q = let l = component-told es a b .0 q in component-told fs a b .1 (leads-alike es fs h a b (l .0), leads-alike es fs h b a (l .1))
 
-pub component-alike : (es fs : List EdgeRow) → ((p : Name → Name → Bool) → some-edge p es ≡ some-edge p fs) → (a b : Name) → among b (component es a) ≡ among b (component fs a)
+component-alike : (es fs : List EdgeRow) → ((p : Name → Name → Bool) → some-edge p es ≡ some-edge p fs) → (a b : Name) → among b (component es a) ≡ among b (component fs a)
 component-alike es fs h a b = bool-eq (among b (component es a)) (among b (component fs a)) (component-more es fs h a b) (component-more fs es (λ p. sym (h p)) a b)
 
 -- another name than n
@@ -65,7 +65,7 @@ other-of n (x ∷ ms) h = elim (or-cases (not (same n x)) (has-other n ms) h) [
 other-more : (n : Name) (xs ys : List Name) → ((m : Name) → among m xs ≡ among m ys) → has-other n xs ≡ true → has-other n ys ≡ true
 other-more n xs ys h q = let o = other-of n xs q in other-from n (o .0) ys (sym (h (o .0)) ∙ o .1) (o .2)
 
-pub other-alike : (n : Name) (xs ys : List Name) → ((m : Name) → among m xs ≡ among m ys) → has-other n xs ≡ has-other n ys
+other-alike : (n : Name) (xs ys : List Name) → ((m : Name) → among m xs ≡ among m ys) → has-other n xs ≡ has-other n ys
 other-alike n xs ys h = bool-eq (has-other n xs) (has-other n ys) (other-more n xs ys h) (other-more n ys xs (λ m. sym (h m)))
 
 -- a name shares n's ring
@@ -95,7 +95,7 @@ module _ (c d : Counts) (k : Alike c d) where
   closed-by-alike : (other : Bool) (t : Name → Bool) → closed-by other t c ≡ closed-by other t d
   closed-by-alike other t = ap₂ (λ (x y : Bool). other && (not x && not y)) (k .entries t) (k .edges (λ a b. t b && not (t a)))
 
-  pub closed-alike : (n : Name) → closed c n ≡ closed d n
+  closed-alike : (n : Name) → closed c n ≡ closed d n
   closed-alike n =
     ap₂ (λ (b : Bool) (t : Name → Bool). closed-by b t c) (other-alike n (component (c .edges) n) (component (d .edges) n) (ring-alike n)) (tests-alike n)
     ∙ closed-by-alike (has-other n (component (d .edges) n)) (in-ring d n)
@@ -111,7 +111,7 @@ module _ (c d : Counts) (k : Alike c d) where
   less-alike : (n : Name) (r : NameRow) → less (component (c .edges) n) (c .edges) r ≡ less (component (d .edges) n) (d .edges) r
   less-alike n r = ap (λ (t : Name → Bool). less-by t (c .edges) r) (tests-alike n) ∙ less-by-alike (in-ring d n) r
 
-  pub discount-alike : (r : NameRow) → discount-row c r ≡ discount-row d r
+  discount-alike : (r : NameRow) → discount-row c r ≡ discount-row d r
   discount-alike r = ap₂ (λ (b : Bool) (x : NameRow). if b then x else r) (closed-alike (r .name)) (less-alike (r .name) r)
 
   pub rows-alike : (n : Name) → look n (discount c) ≡ look n (discount d)

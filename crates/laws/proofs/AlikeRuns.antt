@@ -1,6 +1,6 @@
 -- Runs from twins: call by call both states tell the same, so the answers do, and each loses what the other loses.
 --
---   passes-even, repeat-even       passes until one changes nothing
+--   turn-even, passes-even         passes until one changes nothing
 --   Called, call-even              a call
 --   calls-even, final-even         a list of calls
 --   start-even                     shakers begun alike on trees that differ only in the order of items
@@ -24,7 +24,7 @@ use Rattle.rules.specs.Calls.Answer.{pass-answer, repeat-answer}
 use Rattle.rules.specs.Law.{begun-on, tree-of, told, Telling, tellings, Reordered, Begun-alike, Same-lost}
 use Rattle.laws.specs.OrderLaw.{Order-law}
 use Rattle.laws.proofs.OrderCount.{reached-turned}
-use Rattle.laws.proofs.TablesWords.{table-sizes, read-back}
+use Rattle.laws.proofs.OrderWords.{table-sizes, read-back}
 use Rattle.laws.proofs.OrderTwins.{Twins, reordered-twins}
 use Rattle.laws.proofs.AlikeFilling.{Held-alike}
 use Rattle.laws.proofs.Runs.{turn}

@@ -27,7 +27,7 @@ use Rattle.rules.specs.Law.{tree-of, Same-lost}
 use Rattle.laws.proofs.UnnumberedRemoval.{blind}
 use Rattle.laws.proofs.TablesRoom.{Bounded}
 use Rattle.laws.proofs.OrderCount.{counts-turned}
-use Rattle.laws.proofs.TablesWords.{table-sizes, names-words-sizes, edges-words-sizes}
+use Rattle.laws.proofs.OrderWords.{table-sizes, names-words-sizes, edges-words-sizes}
 use Rattle.laws.proofs.OrderTwins.{Twins, formed-named}
 use Rattle.laws.proofs.AlikeRemoval.{Left-alike, removed-alike, by-alike}
 use Rattle.laws.proofs.AlikeFilling.{declared-rows, tables-of, tables-fit, fill-tables-bounded, Held-alike, rows-declared-alike, counts-sizes, fit-alike, read-after, read-full, after-sizes}

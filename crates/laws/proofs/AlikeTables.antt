@@ -10,7 +10,7 @@ use mathlib.Core.Bool.{Bool}
 use Rattle.rules.specs.Tree.{Name}
 use Rattle.rules.specs.Counting.{Event}
 use Rattle.rules.specs.Tables.{Counts, look}
-use Rattle.laws.proofs.OrderShuffles.{fold, Commutes}
+use Rattle.laws.proofs.Basics.{fold, Commutes}
 use Rattle.laws.proofs.TablesFilled.{entered, filled, seen, look-entered, seen-commutes, some-name, named, some-name-entered, named-commutes, some-entry, entries, some-entry-entered, entries-commute}
 use Rattle.laws.proofs.TablesEdges.{some-edge, edged, some-edge-entered, edged-commutes, weights, weighed, weights-entered, weighed-commutes}
 

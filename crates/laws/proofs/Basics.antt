@@ -1,10 +1,11 @@
--- Tests, choices, lists and outcomes as several pages need them, and a case split on whether two names are one.
+-- Tests, choices, lists, folds and outcomes as several pages need them, and a case split on whether two names are one.
 --
 --   bool-eq, or-swap, or-twice, or-turn             tests
 --   cond-ap, if-both, cond-nest, cond-commutes, elim-both      choices
 --   by-equal, by-same                               at one key or name, or at two that differ
 --   in-append, in-left, in-right, in-if, if-in      members of one list after another, and of a list under a test
 --   Each, each-member                               a fact on each kind of a list
+--   fold, Commutes, fold-++, fold-swap              folds; with steps that commute, whichever of two parts comes first
 --   fine-eq, refused-fine                           outcomes
 use Prim.Native.Nat.{ℕ}
 use native.Mathlib.Omega.{arith}
@@ -111,6 +112,27 @@ Each P (k ∷ ks) = P k × Each P ks
 pub each-member : (P : ℕ → Type 0) (k : ℕ) (ks : List ℕ) → Each P ks → member k ks ≡ true → P k
 each-member P k [] all g = absurd (both-ways false refl g)
 each-member P k (m ∷ ks) all g = ⊎-elim (λ e. subst P (sym (eqb-true k m e)) (all .0)) (λ y. each-member P k ks (all .1) y) (or-cases (eqb k m) (member k ks) g)
+
+-- FOLDS
+
+abbrev pub fold : {E R : Type 0} → (E → R → R) → List E → R → R
+fold f [] r = r
+fold f (x ∷ xs) r = fold f xs (f x r)
+
+abbrev pub Commutes : {E R : Type 0} → (E → R → R) → Type 0
+Commutes {E} {R} f = (x y : E) (r : R) → f x (f y r) ≡ f y (f x r)
+
+pub fold-++ : {E R : Type 0} (f : E → R → R) (xs ys : List E) (r : R) → fold f (xs ++ ys) r ≡ fold f ys (fold f xs r)
+fold-++ f [] ys r = refl
+fold-++ f (x ∷ xs) ys r = fold-++ f xs ys (f x r)
+
+fold-past : {E R : Type 0} (f : E → R → R) → Commutes f → (x : E) (ys : List E) (r : R) → fold f ys (f x r) ≡ f x (fold f ys r)
+fold-past f c x [] r = refl
+fold-past f c x (y ∷ ys) r = ap (fold f ys) (c y x r) ∙ fold-past f c x ys (f y r)
+
+pub fold-swap : {E R : Type 0} (f : E → R → R) → Commutes f → (xs ys : List E) (r : R) → fold f xs (fold f ys r) ≡ fold f ys (fold f xs r)
+fold-swap f c [] ys r = refl
+fold-swap f c (x ∷ xs) ys r = ap (fold f xs) (sym (fold-past f c x ys r)) ∙ fold-swap f c xs ys (f x r)
 
 -- OUTCOMES
 

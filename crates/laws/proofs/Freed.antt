@@ -3,7 +3,7 @@
 -- as counted, and would not be free; in one, each holder has its edge, and without a holder the name would be an entry.
 --
 --   Held-in-ring, unused-within, unread-within      the references to a free name
---   taken-unused, gave-unread                 the names taken and given
+--   taken-unused, gave-unread                       the names taken and given
 use Prim.Native.Nat.{_≤_}
 use native.Mathlib.Omega.{arith}
 use mathlib.Core.Path.{_≡_, refl, sym, subst, _∙_}

@@ -34,7 +34,7 @@ one-same x n e = rw (eq-eqb x n e)
 one-other : (x n : ℕ) → (x ≡ n → ⊥) → one x n ≡ 0
 one-other x n e = rw (ne-eqb x n e)
 
-pub occ-in : (c : Chain) (x : ℕ) → 0 < occ x c → Numbers x c
+occ-in : (c : Chain) (x : ℕ) → 0 < occ x c → Numbers x c
 occ-in end x l = absurd (omega arith)
 occ-in (link h children rest) x l =
   ⊎-elim (λ (e : x ≡ h .number). inl e)
@@ -44,7 +44,7 @@ occ-in (link h children rest) x l =
         (cases-lt 0 (occ x children)))
     (cases-eq x (h .number))
 
-pub in-occ : (c : Chain) (x : ℕ) → Numbers x c → 0 < occ x c
+in-occ : (c : Chain) (x : ℕ) → Numbers x c → 0 < occ x c
 in-occ end x i = absurd i
 in-occ (link h children rest) x (inl e) = omega (arith, one-same x (h .number) e)
 in-occ (link h children rest) x (inr (inl i)) = omega (arith, in-occ children x i)
@@ -54,7 +54,7 @@ occ-none : (c : Chain) (x : ℕ) → (Numbers x c → ⊥) → occ x c ≡ 0
 occ-none c x out =
   ⊎-elim (λ (p : 0 < occ x c). absurd (out (occ-in c x p))) (λ (q : occ x c ≤ 0). omega arith) (cases-lt 0 (occ x c))
 
-pub occ-once : (c : Chain) (x : ℕ) → Apart c → occ x c ≤ 1
+occ-once : (c : Chain) (x : ℕ) → Apart c → occ x c ≤ 1
 occ-once end x a = omega arith
 occ-once (link h children rest) x a =
   let n = h .number in
@@ -69,7 +69,7 @@ occ-once (link h children rest) x a =
         (cases-lt 0 (occ x children)))
     (cases-eq x n)
 
-pub once-apart : (c : Chain) → ((x : ℕ) → occ x c ≤ 1) → Apart c
+once-apart : (c : Chain) → ((x : ℕ) → occ x c ≤ 1) → Apart c
 once-apart end o = tt
 once-apart (link h children rest) o =
   let n = h .number in
@@ -83,7 +83,7 @@ once-apart (link h children rest) o =
 abbrev occurring : ℕ → Measure
 occurring x = record { weight = λ h. one x (h .number); sum = occ x; none = refl; more = λ h children rest. refl; becomes = λ k h. refl }
 
-pub treat-occ : (x : ℕ) (by : By) (p : Place) (c : Chain) → occ x (treat by p c .chain) ≤ occ x c
+treat-occ : (x : ℕ) (by : By) (p : Place) (c : Chain) → occ x (treat by p c .chain) ≤ occ x c
 treat-occ x by p c = treat-sum (occurring x) by p c
 
 pub keeps-apart : Keeps-apart

@@ -62,7 +62,7 @@ module _ (by : By) (p : Place) (h : Head) (k : h .kind ≡ declarator) where
   done-declarator found inner (yields name) m = absurd (omega (arith, m .kind))
   done-declarator found inner unwraps m = absurd (omega (arith, m .kind))
 
-  pub declarator-left : (found : Chain) (last : Bool) (inner : Left) →
+  declarator-left : (found : Chain) (last : Bool) (inner : Left) →
     Declarator-left by p h (inner .chain) (treated (entered p h found last) by p h found inner .chain)
   declarator-left found last inner =
     subst (λ (b : Bool). Declarator-left by p h (inner .chain) (treated b by p h found inner .chain)) (sym (declarator-entered p h found last k))
@@ -104,7 +104,7 @@ value-formed (link t under (link v inside rest)) others f g =
   let p = formed-one pattern (maybe expression ∷ []) (link t under (link v inside rest)) f .1 in
   list-link expression v inside others (maybe-taken expression (v .kind) (p .1)) (p .0) (p .2) g
 
-pub values-formed : (c : Chain) → Formed declarators c → Formed (list-of expression) (values c)
+values-formed : (c : Chain) → Formed declarators c → Formed (list-of expression) (values c)
 values-formed end f = refl
 values-formed (link d parts rest) f =
   let l = listed (only declarator) d parts rest f in
@@ -122,7 +122,7 @@ append-filled end d e = absurd (both-ways true e refl)
 append-filled (link h children rest) d e = refl
 
 -- values join to one expression, if the first Declarator has one
-pub joined-formed : (d : Head) (parts rest : Chain) → isEnd (after parts) ≡ false → Formed declarators (link d parts rest) →
+joined-formed : (d : Head) (parts rest : Chain) → isEnd (after parts) ≡ false → Formed declarators (link d parts rest) →
   Formed ((one expression ∷ []) ∷ []) (joined (link d parts rest))
 joined-formed d parts rest e f =
   let all = values (link d parts rest) in

@@ -133,7 +133,7 @@ var-inward by p h children f k e =
     (λ x. absurd (both-ways (isEnd (treat by q children .chain)) (exported-filled by q (export-inside p h k x) children g (formed-filled (children-of h) children (rw k) f)) e))
     (λ x. x) (cases-bool (p .in-export))
 
-pub treat-formed : (by : By) (p : Place) (ways : List Way) (c : Chain) → Bears p ways → Formed ways c → Formed ways (treat by p c .chain)
+treat-formed : (by : By) (p : Place) (ways : List Way) (c : Chain) → Bears p ways → Formed ways c → Formed ways (treat by p c .chain)
 treat-formed by p ways end ready f = f
 treat-formed by p ways (link h children rest) ready f =
   let q = place-inside p h in

@@ -1,5 +1,5 @@
--- Sums over the records of a chain, each record weighed by its number: records stay, vanish or move up, and none is made, so that what is
--- left never sums to more. Every move is one step of arithmetic.
+-- Sums over the records of a chain, each record weighed whatever its kind: records stay, vanish or move up, and none is made, so that what
+-- is left never sums to more. Every move is one step of arithmetic.
 --
 --   Measure                                a weight for each record, and its sum over a chain
 --   sum-append .. sum-wrapped              the pieces that are moved

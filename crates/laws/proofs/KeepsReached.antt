@@ -1,7 +1,6 @@
--- The number of records is a measure, so that no more are reached; and each removal loses one. Only a declaration that becomes Empty without a child
--- would lose none: the table of kinds gives each Fn, Class and Var a child.
+-- The number of records is a measure, so that no more are reached; and each removal loses one. Only a declaration that becomes Empty
+-- without a child would lose none: the table of kinds gives each Fn, Class and Var a child.
 --
---   sum-append records .. sum-wrapped records      the pieces that are moved
 --   reached-restated                       a Var that becomes an Expression statement loses its names
 --   emptied-filled                         what becomes Empty has a child
 --   fewer-reached                          no more are left

@@ -1,6 +1,8 @@
+-- the small laws, the table of kinds, the verdicts
 pub mod Basics
 pub mod Formed
 pub mod Verdicts
+-- what a removal leaves is accepted again
 pub mod KeepsMeasure
 pub mod KeepsApart
 pub mod KeepsEverywhere
@@ -13,17 +15,22 @@ pub mod KeepsLists
 pub mod KeepsDeclarators
 pub mod KeepsFormed
 pub mod KeepsChecked
-pub mod OrderShuffles
+-- the tables of a count, and the rings
 pub mod TablesRows
 pub mod TablesFilled
 pub mod TablesEdges
 pub mod TablesTold
+pub mod TablesSizes
+pub mod TablesRoom
 pub mod RingsDiscount
+pub mod RingsClosed
+-- lists of calls
+pub mod RunsNumbered
+pub mod Runs
+-- the order of items does not matter
 pub mod AlikeTables
 pub mod AlikeRings
-pub mod TablesSizes
-pub mod TablesSingle
-pub mod TablesRoom
+pub mod AlikeSizes
 pub mod UnnumberedCount
 pub mod UnnumberedRemoval
 pub mod OrderCount
@@ -31,24 +38,23 @@ pub mod OrderRemoval
 pub mod OrderNowhere
 pub mod OrderItems
 pub mod OrderDeclared
-pub mod TablesWords
+pub mod OrderWords
 pub mod OrderTwins
 pub mod AlikeRemoval
 pub mod AlikeFilling
 pub mod AlikeStates
 pub mod AlikeRuns
 pub mod OrderSample
+-- references left to taken names
 pub mod RefersExported
 pub mod Refers
 pub mod RefersUnwrapped
 pub mod RefersKept
 pub mod RefersCounted
 pub mod RefersInside
-pub mod RingsClosed
 pub mod Freed
-pub mod RunsNumbered
-pub mod Runs
 pub mod References
+-- completed repeats
 pub mod RepeatsUnchanged
 pub mod RepeatsUsed
 pub mod Repeats

@@ -19,7 +19,7 @@ use Rattle.rules.specs.Tables.{Counts, no-rows}
 use Rattle.rules.specs.Law.{Shuffled}
 use Rattle.rules.specs.Law.Shuffled.{none, past, swap, again}
 use Rattle.laws.proofs.Basics.{or-swap}
-use Rattle.laws.proofs.OrderShuffles.{fold, fold-++, fold-swap}
+use Rattle.laws.proofs.Basics.{fold, fold-++, fold-swap}
 use Rattle.laws.proofs.TablesFilled.{filled}
 use Rattle.laws.proofs.AlikeTables.{Alike, Exchanged, alike}
 use Rattle.laws.proofs.UnnumberedCount.{filled-unnumbered, names-unnumbered, declaring-unnumbered, count-unnumbered}

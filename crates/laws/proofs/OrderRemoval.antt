@@ -1,6 +1,7 @@
 -- Removal of the items of a root: each is treated by itself, so what is left of them stands in the order in which they stood,
 -- and something is removed from one order exactly if it is from the other.
 --
+--   shuffled-after, exchange          chains with the same front; two parts in front of a third
 --   top, item-left, remains           the items' place; what is left of one; what is left of all, swept
 --   remains-link                      item by item
 --   remains-shuffled, changed-shuffled      in another order
@@ -17,9 +18,28 @@ use Rattle.rules.specs.Law.{Shuffled}
 use Rattle.rules.specs.Law.Shuffled.{none, past, swap, again}
 use Rattle.laws.proofs.Basics.{cond-ap, or-swap}
 use Rattle.laws.proofs.Verdicts.{entered-anywhere}
-use Rattle.laws.proofs.OrderShuffles.{shuffled-after, exchange}
 use Rattle.laws.proofs.UnnumberedRemoval.{swept-unnumbered, treat-unnumbered}
 use Rattle.laws.proofs.OrderCount.{root-of}
+
+-- SHUFFLED CHAINS
+
+unmoved : (c : Chain) → Shuffled c c
+unmoved end = none
+unmoved (link h cs rest) = past (unmoved rest)
+
+shuffled-after : (x : Chain) {a b : Chain} → Shuffled a b → Shuffled (append x a) (append x b)
+shuffled-after end s = s
+shuffled-after (link h cs x) s = past (shuffled-after x s)
+
+one-past : (h : Head) (cs y r : Chain) → Shuffled (link h cs (append y r)) (append y (link h cs r))
+one-past h cs end r = unmoved (link h cs r)
+one-past h cs (link g ds y) r = again swap (past (one-past h cs y r))
+
+exchange : (x y r : Chain) → Shuffled (append x (append y r)) (append y (append x r))
+exchange end y r = unmoved (append y r)
+exchange (link h cs x) y r = again (past (exchange x y r)) (one-past h cs y (append x r))
+
+-- ITEMS
 
 -- the place of a root's items
 abbrev pub top : (module-tree : Bool) → Place

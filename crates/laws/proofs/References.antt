@@ -1,5 +1,9 @@
 -- The references part of the law about runs. A reference that is left at the end was counted in the tree that the pass found, since
 -- references never grow; its name being free, it has holders, all of the name's closed ring, and it stands inside the first of them.
+--
+--   later-refers, made-references      one pass, and the tree left by it and by removals after it
+--   Follows, calls-follow              a list of calls
+--   references-law                     the theorem
 use Prim.Native.Nat.{ℕ, zero, suc}
 use mathlib.Core.Path.{_≡_, refl, sym, subst}
 use mathlib.Core.Bool.{Bool, true, false}

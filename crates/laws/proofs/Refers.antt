@@ -3,7 +3,7 @@
 --
 --   Here, Refers                    an event is a reference of the record itself; of a chain
 --   with-role                       the same surroundings with another role of a Name pattern
---   refers-append, refers-swept, refers-after, refers-below, refers-moved      what moves
+--   refers-append, refers-swept, refers-after, refers-moved      what moves
 --   refers-joined                   the values of a Var's Declarators
 use mathlib.Core.Path.{_≡_, refl, sym, subst}
 use mathlib.Core.Bool.{true, false}
@@ -41,7 +41,7 @@ own-expression a h r s x = rw (other-kind (h .kind) name-pattern x refl)
 inside-expression : (a : Around) (h : Head) (r s : Role) → expression (h .kind) ≡ true → inside (with-role a r) h ≡ inside (with-role a s) h
 inside-expression a h r s x = rw (other-kind (h .kind) compound-pattern x refl, other-kind (h .kind) default-pattern x refl)
 
-pub inside-declarator : (a : Around) (h : Head) → h .kind ≡ declarator → inside a h ≡ with-role a declared-here
+inside-declarator : (a : Around) (h : Head) → h .kind ≡ declarator → inside a h ≡ with-role a declared-here
 inside-declarator a h k = rw k
 
 pub inside-var : (a : Around) (h : Head) → h .kind ≡ var-declaration → inside a h ≡ with-role a written

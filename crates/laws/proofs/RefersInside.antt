@@ -1,4 +1,7 @@
 -- A counted reference with holders stands inside a declaration of each of them: a name is on a path only below its declaration.
+--
+--   On-paths, inside-on      a name on one of the paths; below a record
+--   holder-inside            the theorem
 use Prim.Native.Nat.{ℕ}
 use mathlib.Core.Path.{_≡_, sym, ap, subst}
 use mathlib.Core.Bool.{Bool, true, false, _||_}

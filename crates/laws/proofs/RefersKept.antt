@@ -1,5 +1,7 @@
 -- Counted references never grow: each reference of the tree that a removal leaves, with its holders and its record, stood in the
--- tree that it found.
+-- tree that it found. Rule by rule: what stays refers as before, what moves is an expression, and what a rule makes refers to nothing.
+--
+--   done-refers, treat-refers      one record; a chain
 use mathlib.Core.Path.{_≡_, refl, sym, subst}
 use mathlib.Core.Bool.{false}
 use mathlib.Core.List.{List}

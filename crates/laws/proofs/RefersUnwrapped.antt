@@ -1,5 +1,8 @@
 -- A Call that gives way to the Object it wraps: the Object's Identifiers refer as they did below callee, Function, Block and return,
 -- since none of these puts a name on a path or changes the innermost function or class.
+--
+--   Around-alike, alike-inside      surroundings in which a reference is counted alike
+--   refers-unwrapped                the theorem
 use Prim.Native.Nat.{ℕ}
 use mathlib.Core.Path.{_≡_, refl, sym, subst, _∙_}
 use mathlib.Core.Bool.{Bool, true, false}

@@ -1,8 +1,8 @@
 -- A removal that changes nothing only sweeps lists, and what it leaves counts, declares and binds the same: what is swept is Empty
 -- or a Block without children, and neither counts or declares anything.
 --
---   Reads-same                the tree left gives the same counts, declared names, bound names and exported names
---   treat-same          a removal that changes nothing leaves such a tree
+--   Reads-same, reads-link, reads-swept      the tree left gives the same counts, declared names, bound names and exported names
+--   treat-same                               a removal that changes nothing leaves such a tree
 use Prim.Native.Nat.{ℕ}
 use mathlib.Core.Path.{_≡_, refl, sym, ap, subst, _∙_}
 use mathlib.Core.Bool.{Bool, true, false, _&&_, _||_}
@@ -95,7 +95,7 @@ pub record Reads-same (c left : Chain) : Type 0 where
   pub evals : calls-eval left ≡ calls-eval c
   pub ends : isEnd left ≡ isEnd c
 
-pub reads-refl : (c : Chain) → Reads-same c c
+reads-refl : (c : Chain) → Reads-same c c
 reads-refl c = record { counts = λ a. refl; declarations = λ u. refl; bounds = refl; exports = refl; evals = refl; ends = refl }
 
 reads-then : (c d e : Chain) → Reads-same c d → Reads-same d e → Reads-same c e

@@ -83,7 +83,7 @@ module _ (by : By) (n : Name) where
     subst (λ (c : Chain). Leaves p (append c (b .chain))) (sym (x .is-link))
       (λ y. ⊎-elim (λ z. x .used (subst (λ (l : Bool). entered p h (x .children) l ≡ true) e (z .0)) (z .1)) u y)
 
-  pub treat-used : (p : Place) (ways : List Way) (c : Chain) → Formed ways c → treat by p c .changed ≡ false → Leaves p (treat by p c .chain)
+  treat-used : (p : Place) (ways : List Way) (c : Chain) → Formed ways c → treat by p c .changed ≡ false → Leaves p (treat by p c .chain)
   treat-used p ways end s g = λ x. absurd x
   treat-used p ways (link h cs rest) s g =
     let inner = treat by (place-inside p h) cs in

@@ -1,4 +1,8 @@
--- The refusals of the check and of the tables have numbers from 1: none is told as 0.
+-- The refusals of the check and of the tables have numbers from 1: none is told as 0. Each refusal is one of the named ones, and what is
+-- done one after another refuses as its parts do.
+--
+--   Numbered                               a result, or a refusal with such a number
+--   numbered-check, numbered-tables        the check; the tables
 use Prim.Native.Nat.{ℕ, zero, suc, _≤_}
 use native.Mathlib.Omega.{arith}
 use mathlib.Core.Bool.{Bool, true, false, not, _||_}

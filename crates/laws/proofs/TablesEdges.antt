@@ -16,7 +16,7 @@ use Rattle.rules.specs.Tables.{EdgeRow, Counts, some-row, edge-of, reads, write
 use Rattle.rules.specs.Rings.{total}
 use Rattle.rules.proofs.SameNames.{same-eq, same-refl}
 use Rattle.laws.proofs.Basics.{or-swap, or-twice}
-use Rattle.laws.proofs.OrderShuffles.{Commutes}
+use Rattle.laws.proofs.Basics.{Commutes}
 use Rattle.laws.proofs.TablesRows.{with-change, some-with-change, total-with-change}
 use Rattle.laws.proofs.TablesFilled.{new-edge, adds-edge, held-by, all-held, entered}
 
@@ -32,7 +32,7 @@ edge-refl a b = and-from (same a a) (same b b) (same-refl a) (same-refl b)
 abbrev pub some-edge : (Name → Name → Bool) → List EdgeRow → Bool
 some-edge p rs = some-row (λ r. p (r .from) (r .to)) rs
 
-pub some-edge-changed : (p : Name → Name → Bool) (a b : Name) (e : Event) (rs : List EdgeRow) → some-edge p (with-change (edge-of a b) (new-edge a b) (adds-edge e) rs) ≡ (p a b || some-edge p rs)
+some-edge-changed : (p : Name → Name → Bool) (a b : Name) (e : Event) (rs : List EdgeRow) → some-edge p (with-change (edge-of a b) (new-edge a b) (adds-edge e) rs) ≡ (p a b || some-edge p rs)
 some-edge-changed p a b e rs = some-with-change (λ r. p (r .from) (r .to)) (edge-of a b) (new-edge a b) (adds-edge e) (p a b) refl
   (λ r q. let (x, y) = edge-eq a b r q in subst₂ (λ (u v : Name). p u v ≡ (p a b || p u v)) x y (or-twice (p a b))) rs
 

@@ -4,7 +4,7 @@
 --   Bounded, then-bounded          an outcome that is a result exactly if a test passes
 --   fits, Larger                   the rows fit; tables grow
 --   all-declared, declare-bounded  the declared names, each once
---   fill-bounded                   names and edges
+--   fill-bounded, fill-filled      names and edges
 use Prim.Native.Nat.{ℕ, suc, _+_, _≤_}
 use native.Mathlib.Omega.{arith}
 use mathlib.Core.Path.{_≡_, refl, sym, ap, _∙_, subst}

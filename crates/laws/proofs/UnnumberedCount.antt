@@ -61,11 +61,11 @@ kept-unnumbered b n h xs ys p q =
   ∙ (ap (λ (zs : List Head). keep b (unnumbered-head h) (zs ++ unnumbered-heads ys)) (sym (cond-ap unnumbered-heads n xs []))
   ∙ (ap (keep b (unnumbered-head h)) (sym (heads-++ (if n then xs else []) ys)) ∙ keep-unnumbered b h ((if n then xs else []) ++ ys)))
 
-pub bound-unnumbered : (c : Chain) → bound (unnumbered c) ≡ unnumbered-heads (bound c)
+bound-unnumbered : (c : Chain) → bound (unnumbered c) ≡ unnumbered-heads (bound c)
 bound-unnumbered end = refl
 bound-unnumbered (link h children rest) = kept-unnumbered (binds h) (nests h) h (bound children) (bound rest) (bound-unnumbered children) (bound-unnumbered rest)
 
-pub exported-unnumbered : (c : Chain) → exported (unnumbered c) ≡ unnumbered-heads (exported c)
+exported-unnumbered : (c : Chain) → exported (unnumbered c) ≡ unnumbered-heads (exported c)
 exported-unnumbered end = refl
 exported-unnumbered (link h children rest) =
   kept-unnumbered (h is fn-declaration || h is class-declaration || binds h) (h is var-declaration || h is declarator || nests h) h (exported children) (exported rest)

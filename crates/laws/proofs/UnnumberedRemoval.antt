@@ -15,7 +15,7 @@ use Rattle.rules.specs.Removal.{By, Place, Left, Verdict, place-inside, can-dro
 use Rattle.rules.specs.Removal.Verdict.{stays, sweeps, empties, unlinks, restates, yields, unwraps}
 use Rattle.laws.proofs.Basics.{cond-ap, if-both}
 
-pub twice-unnumbered : (c : Chain) → unnumbered (unnumbered c) ≡ unnumbered c
+twice-unnumbered : (c : Chain) → unnumbered (unnumbered c) ≡ unnumbered c
 twice-unnumbered end = refl
 twice-unnumbered (link h cs rest) = ap₂ (link (unnumbered-head h)) (twice-unnumbered cs) (twice-unnumbered rest)
 
@@ -28,7 +28,7 @@ blind acts lawful c = lawful (unnumbered c) c (ap unnumbered (alone-unnumbered c
 
 -- WHAT IS READ OF A CHAIN
 
-pub isEnd-unnumbered : (c : Chain) → isEnd (unnumbered c) ≡ isEnd c
+isEnd-unnumbered : (c : Chain) → isEnd (unnumbered c) ≡ isEnd c
 isEnd-unnumbered end = refl
 isEnd-unnumbered (link h cs rest) = refl
 

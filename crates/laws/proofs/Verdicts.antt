@@ -1,5 +1,5 @@
 -- What a verdict tells of the record that it is about: its kind, and the tests of the rule that it came from.
--- This is the only place where the nest of the rules' tests is opened.
+-- The nest of the rules' tests is opened here; the other pages reason about a verdict by what it tells.
 --
 --   Emptying, Unlinking                                           the records that become Empty; those that are unlinked
 --   Emptied, Unlinked, Restated, Yielded, Unwrapped, Staying      what each verdict tells
@@ -202,7 +202,7 @@ by-list P h g x y z = each-member (λ (k : ℕ). P (with-kind h k)) (h .kind) (m
 
 -- WRAPPED OBJECTS
 
-pub first-is-kind : (k : ℕ) (c : Chain) → first-is k c ≡ true → first-kind c ≡ k
+first-is-kind : (k : ℕ) (c : Chain) → first-is k c ≡ true → first-kind c ≡ k
 first-is-kind k end g = absurd (both-ways false refl g)
 first-is-kind k (link h children rest) g = eqb-true (h .kind) k g
 
