@@ -5,8 +5,8 @@
 --   closed-alike, discount-alike      closed rings; a discounted row
 --   rows-alike                        a name's row after the rings are discounted
 use mathlib.Core.Path.{_≡_, sym, ap, ap₂, _∙_, subst, fun-ext}
-use mathlib.Core.List.{List, [], _∷_}
 use mathlib.Core.Bool.{Bool, true, false, _&&_, not}
+use mathlib.Core.List.{List, [], _∷_}
 use mathlib.Core.Logic.{inl, inr}
 use Rattle.std.proofs.shelf.Tests.{false≢true, and-from, or-cases, or-left, or-right, not-true, not-from-false}
 use Rattle.rules.specs.Tree.{Name, if_then_else_}

@@ -7,27 +7,27 @@
 --   order-law                      the law
 use Prim.Native.Nat.{ℕ, zero, suc, _+_}
 use mathlib.Core.Path.{_≡_, refl, sym, ap, ap₂, _∙_, subst, subst₂}
-use mathlib.Core.List.{List, [], _∷_}
 use mathlib.Core.Bool.{Bool, true, false}
+use mathlib.Core.List.{List, [], _∷_}
 use lib.ListN.{length}
 use Rattle.std.proofs.shelf.Tests.{true≢false, false≢true}
 use Rattle.std.proofs.shelf.Lists.{length-append}
 use Rattle.rules.specs.Tree.{Chain}
 use Rattle.rules.specs.Refusals.{Outcome}
 use Rattle.rules.specs.Refusals.Outcome.{fine, refused}
-use Rattle.rules.specs.Judges.{Lawful}
 use Rattle.rules.specs.Tables.{declared-width, names-width, edges-width, read-declared}
+use Rattle.rules.specs.Judges.{Lawful}
 use Rattle.rules.specs.Removal.{Config}
 use Rattle.rules.specs.Calls.{State, Handed, Pass, After, Call, Answer, handed-fit, zeroed, cleared, pass-once, passes-from, reached-by, repeat-ended, call-fitting, unfit-answer, call, calls, final}
 use Rattle.rules.specs.Calls.Call.{pass, reset, repeat}
 use Rattle.rules.specs.Calls.Answer.{pass-answer, repeat-answer}
 use Rattle.rules.specs.Law.{begun-on, tree-of, told, Telling, tellings, Reordered, Begun-alike, Same-lost}
 use Rattle.laws.specs.OrderLaw.{Order-law}
+use Rattle.laws.proofs.Runs.{turn}
 use Rattle.laws.proofs.OrderCount.{reached-turned}
 use Rattle.laws.proofs.OrderWords.{table-sizes, read-back}
 use Rattle.laws.proofs.OrderTwins.{Twins, reordered-twins}
 use Rattle.laws.proofs.AlikeFilling.{Held-alike}
-use Rattle.laws.proofs.Runs.{turn}
 use Rattle.laws.proofs.AlikeStates.{tree, Even, handed-even, cleared-even, Both, Ran, pass-even}
 
 -- calls that go alike from two trees

@@ -3,8 +3,8 @@
 --   Tidy, tidy-filled           no name has two rows, and no edge
 --   names-sizes, edges-sizes    equally many rows
 use mathlib.Core.Path.{_≡_, refl}
-use mathlib.Core.List.{List, [], _∷_}
 use mathlib.Core.Bool.{Bool, true, _&&_}
+use mathlib.Core.List.{List, [], _∷_}
 use lib.ListN.{length}
 use Rattle.std.proofs.shelf.Tests.{and-parts, and-from}
 use Rattle.rules.specs.Tree.{Name}

@@ -8,24 +8,24 @@
 --   pass-even                           a pass
 use Prim.Native.Nat.{ℕ, _/_}
 use mathlib.Core.Path.{_≡_, refl, sym, ap, ap₂, _∙_, subst, subst₂}
-use mathlib.Core.List.{List, []}
 use mathlib.Core.Bool.{Bool, _&&_, _||_}
+use mathlib.Core.List.{List, []}
 use lib.Dec.{leb}
 use lib.ListN.{length}
 use Rattle.std.proofs.shelf.Tests.{true≢false, false≢true}
 use Rattle.rules.specs.Tree.{Chain, Name}
+use Rattle.rules.specs.Grammar.{root}
 use Rattle.rules.specs.Refusals.{Outcome}
 use Rattle.rules.specs.Refusals.Outcome.{fine, refused}
 use Rattle.rules.specs.Check.{tree-fits}
-use Rattle.rules.specs.Grammar.{root}
-use Rattle.rules.specs.Judges.{Lawful}
 use Rattle.rules.specs.Tables.{Room, room, names-width, edges-width, names-in-words, edges-in-words, read-declared}
 use Rattle.rules.specs.Rings.{discount}
+use Rattle.rules.specs.Judges.{Lawful}
 use Rattle.rules.specs.Removal.{Config, By, at-root, treat}
 use Rattle.rules.specs.Calls.{State, Filled, Pass, After, most-table-words, handed-fit, zeroed, cleared, filled-up, fill-tables, pass-by, remove, passed, pass-filled, pass-checked, pass-once}
 use Rattle.rules.specs.Law.{tree-of, Same-lost}
-use Rattle.laws.proofs.UnnumberedRemoval.{blind}
 use Rattle.laws.proofs.TablesRoom.{Bounded}
+use Rattle.laws.proofs.UnnumberedRemoval.{blind}
 use Rattle.laws.proofs.OrderCount.{counts-turned}
 use Rattle.laws.proofs.OrderWords.{table-sizes, names-words-sizes, edges-words-sizes}
 use Rattle.laws.proofs.OrderTwins.{Twins, formed-named}

@@ -5,8 +5,8 @@
 --   Exchanged       the same events, in whatever order
 --   alike           exchanged events fill tables alike
 use mathlib.Core.Path.{_≡_, refl, sym, ap, _∙_}
-use mathlib.Core.List.{List, [], _∷_}
 use mathlib.Core.Bool.{Bool}
+use mathlib.Core.List.{List, [], _∷_}
 use Rattle.rules.specs.Tree.{Name}
 use Rattle.rules.specs.Counting.{Event}
 use Rattle.rules.specs.Tables.{Counts, look}

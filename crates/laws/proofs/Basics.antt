@@ -16,9 +16,9 @@ use mathlib.Core.Logic.{_⊎_, inl, inr, ⊎-elim}
 use lib.Dec.{eqb}
 use Rattle.std.proofs.shelf.Tests.{cases-bool, both-ways, or-cases, eqb-true}
 use Rattle.rules.specs.Tree.{Name, if_then_else_}
+use Rattle.rules.specs.Kinds.{member}
 use Rattle.rules.specs.Refusals.{Outcome}
 use Rattle.rules.specs.Refusals.Outcome.{fine, refused}
-use Rattle.rules.specs.Kinds.{member}
 use Rattle.rules.specs.Names.{same}
 use Rattle.rules.specs.Law.{In}
 use Rattle.rules.proofs.SameNames.{same-eq, same-refl}

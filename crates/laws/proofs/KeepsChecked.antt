@@ -19,9 +19,9 @@ use Rattle.rules.specs.Removal.Verdict.{stays, sweeps, empties, unlinks, restat
 use Rattle.rules.proofs.Sounds.{check-sound, check-complete}
 use Rattle.laws.specs.KeepsTree.{Keeps-root, Checked-again}
 use Rattle.laws.proofs.Basics.{each-member}
+use Rattle.laws.proofs.Formed.{formed-one}
 use Rattle.laws.proofs.Verdicts.{Means, means, Emptying, emptying-kinds, emptying-kind, Unlinking}
 use Rattle.laws.proofs.Verdicts.Unlinking.{declares, specifies}
-use Rattle.laws.proofs.Formed.{formed-one}
 use Rattle.laws.proofs.KeepsApart.{keeps-apart}
 use Rattle.laws.proofs.KeepsLevel.{keeps-level}
 use Rattle.laws.proofs.KeepsFormed.{keeps-formed}

@@ -22,9 +22,9 @@ use Rattle.rules.specs.Grammar.Part.{one, maybe}
 use Rattle.rules.specs.Held.{Formed}
 use Rattle.rules.specs.Removal.{By, Place, Left, Verdict, place-inside, entered, has-list, first-acts, name-goes, all-go, declarator-goes, become, values, joined, verdict, done, treated, treat}
 use Rattle.rules.specs.Removal.Verdict.{stays, sweeps, empties, unlinks, restates, yields, unwraps}
+use Rattle.laws.proofs.Formed.{list-of, listed, list-link, formed-one, one-link, maybe-taken, binding-ways, declarator-children}
 use Rattle.laws.proofs.Verdicts.{Means, means, Emptying, emptying-kind, Unlinking, Restated}
 use Rattle.laws.proofs.Verdicts.Unlinking.{declares, specifies}
-use Rattle.laws.proofs.Formed.{list-of, listed, list-link, formed-one, one-link, maybe-taken, binding-ways, declarator-children}
 use Rattle.laws.proofs.KeepsTable.{declarators}
 
 and-none : (b : Bool) → (b && false) ≡ false

@@ -25,10 +25,10 @@ use Rattle.rules.specs.Held.{Formed}
 use Rattle.rules.specs.Removal.{By, Place, Left, Verdict, at-root, place-inside, entered, has-list, wrapped-object, swept, verdict, done, treated, treat}
 use Rattle.rules.specs.Removal.Verdict.{stays, sweeps, empties, unlinks, restates, yields, unwraps}
 use Rattle.laws.specs.KeepsTree.{Keeps-formed}
+use Rattle.laws.proofs.Formed.{first-kind, formed-one, Record-formed, First-formed, first-formed, below-formed}
 use Rattle.laws.proofs.Verdicts.{Means, means, Emptying, Unlinking, by-list, wraps}
 use Rattle.laws.proofs.Verdicts.Emptying.{fn, class, imports, var}
 use Rattle.laws.proofs.Verdicts.Unlinking.{declares, specifies}
-use Rattle.laws.proofs.Formed.{first-kind, formed-one, Record-formed, First-formed, first-formed, below-formed}
 use Rattle.laws.proofs.KeepsWays.{formed-filled}
 use Rattle.laws.proofs.KeepsFair.{stand-ins}
 use Rattle.laws.proofs.KeepsTable.{Bears, Stands, declarators, inner-ways, bears-fair, bears-inside, swap-moving, swap-declaring, swap-var, drop-formed}

@@ -19,10 +19,10 @@ use Rattle.rules.specs.Held.{Formed}
 use Rattle.rules.specs.Removal.{By, Place, Left, Verdict, place-inside, entered, wrapped-object, become, values, joined, done, verdict, treated, treat, all-go, name-goes}
 use Rattle.rules.specs.Removal.Verdict.{stays, sweeps, empties, unlinks, restates, yields, unwraps}
 use Rattle.laws.specs.KeepsTree.{Fewer-reached, Lost-reached}
-use Rattle.laws.proofs.KeepsWays.{formed-filled}
-use Rattle.laws.proofs.KeepsMeasure.{Measure, sum-append, sum-alone, sum-after, sum-swept, sum-values, sum-wrapped, treated-sum, treat-sum}
 use Rattle.laws.proofs.Verdicts.{Means, means, Emptying}
 use Rattle.laws.proofs.Verdicts.Emptying.{fn, class, imports, var}
+use Rattle.laws.proofs.KeepsMeasure.{Measure, sum-append, sum-alone, sum-after, sum-swept, sum-values, sum-wrapped, treated-sum, treat-sum}
+use Rattle.laws.proofs.KeepsWays.{formed-filled}
 
 -- the number of records is a measure
 abbrev records : Measure

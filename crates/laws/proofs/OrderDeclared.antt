@@ -5,13 +5,13 @@
 --   Symbols, symbols-declared              rows whose first word is not 0
 --   unnamed                                a record of a named kind without a symbol
 --   symbols-of-tree                        the rows of a tree without such a record
+use Prim.Native.Nat.{ℕ}
 use mathlib.Core.Path.{_≡_, refl, sym, ap, _∙_, subst}
-use mathlib.Core.List.{List, [], _∷_, _++_}
 use mathlib.Core.Bool.{Bool, true, false, _&&_, _||_, not, or-assoc}
+use mathlib.Core.List.{List, [], _∷_, _++_}
 use mathlib.Core.Logic.{inl, inr}
 use lib.Dec.{eqb}
 use lib.ListN.{length}
-use Prim.Native.Nat.{ℕ}
 use Rattle.std.proofs.shelf.Tests.{true≢false, cases-bool, or-cases, and-parts, not-true, eqb-true}
 use Rattle.rules.specs.Tree.{Head, Chain, Name, if_then_else_, _is_, nameOf}
 use Rattle.rules.specs.Tree.Chain.{end, link}

@@ -8,8 +8,8 @@
 use Prim.Native.Nat.{ℕ}
 use native.Mathlib.Omega.{arith}
 use mathlib.Core.Path.{_≡_, refl, sym, _∙_, subst, subst₂}
-use mathlib.Core.List.{List, [], _∷_}
 use mathlib.Core.Bool.{Bool, true, false, _&&_}
+use mathlib.Core.List.{List, [], _∷_}
 use mathlib.Core.Logic.{inl, inr}
 use lib.Dec.{eqb, leb}
 use Rattle.std.proofs.shelf.Tests.{true≢false, false≢true, cases-bool, or-cases, and-parts, and-left, and-right, not-true, eqb-true, leb-true, lt-leb}

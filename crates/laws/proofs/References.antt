@@ -11,9 +11,9 @@ use mathlib.Core.List.{List, [], _∷_, _++_}
 use mathlib.Core.Logic.{_⊎_, inl, ⊎-elim}
 use Rattle.std.proofs.shelf.Tests.{both-ways}
 use Rattle.rules.specs.Tree.{Chain, Name}
+use Rattle.rules.specs.Grammar.{root}
 use Rattle.rules.specs.Refusals.{Outcome}
 use Rattle.rules.specs.Refusals.Outcome.{fine}
-use Rattle.rules.specs.Grammar.{root}
 use Rattle.rules.specs.Held.{Formed}
 use Rattle.rules.specs.Counting.{Event, unheld, outermost, events-of}
 use Rattle.rules.specs.Tables.{Counts, look}
@@ -25,14 +25,14 @@ use Rattle.rules.specs.Law.{In, Reference, Inside-ring, begun-on, tree-of}
 use Rattle.laws.specs.ReferencesLaw.{References-law}
 use Rattle.laws.proofs.Basics.{in-append}
 use Rattle.laws.proofs.KeepsFormed.{keeps-formed}
+use Rattle.laws.proofs.Runs.{Later, later-then, Ready, begun-ready, Full, Result, pass-result, result-ready, turn-cases, call-cases, call-ready}
+use Rattle.laws.proofs.Runs.Later.{here, onward}
+use Rattle.laws.proofs.Runs.Result.{not-made, one-made}
 use Rattle.laws.proofs.Refers.{Refers}
 use Rattle.laws.proofs.RefersKept.{treat-refers}
 use Rattle.laws.proofs.RefersCounted.{count-refers, refers-count}
 use Rattle.laws.proofs.RefersInside.{holder-inside}
 use Rattle.laws.proofs.Freed.{Held-in-ring, unused-within, unread-within, taken-unused, gave-unread}
-use Rattle.laws.proofs.Runs.{Later, later-then, Ready, begun-ready, Full, Result, pass-result, result-ready, turn-cases, call-cases, call-ready}
-use Rattle.laws.proofs.Runs.Later.{here, onward}
-use Rattle.laws.proofs.Runs.Result.{not-made, one-made}
 
 -- ONE PASS
 

@@ -20,8 +20,8 @@ use Rattle.rules.specs.Removal.{By, Place, Left, Verdict, place-inside, entered
 use Rattle.rules.specs.Removal.Verdict.{stays, sweeps, empties, unlinks, restates, yields, unwraps}
 use Rattle.rules.specs.Law.{In}
 use Rattle.laws.proofs.Basics.{in-append, in-left, in-right, in-if, if-in}
-use Rattle.laws.proofs.Verdicts.{Means, means, treated-both, wraps}
 use Rattle.laws.proofs.Formed.{first-kind, assigned-value}
+use Rattle.laws.proofs.Verdicts.{Means, means, treated-both, wraps}
 use Rattle.laws.proofs.KeepsTable.{inner-ways}
 use Rattle.laws.proofs.KeepsFormed.{inner-kept}
 

@@ -18,8 +18,8 @@ use Rattle.rules.specs.Held.{Formed}
 use Rattle.rules.specs.Counting.{Event, Around, holders, own, inside}
 use Rattle.rules.specs.Removal.{only-identifiers, wrapped-object}
 use Rattle.rules.specs.Law.{In}
-use Rattle.laws.proofs.Verdicts.{Unwrapped, wraps}
 use Rattle.laws.proofs.Formed.{first-kind, formed-none, First-formed, below-formed, callee-function}
+use Rattle.laws.proofs.Verdicts.{Unwrapped, wraps}
 use Rattle.laws.proofs.Refers.{Refers}
 
 -- a reference is counted alike in both surroundings

@@ -13,9 +13,9 @@ use lib.ListN.{length}
 use Rattle.std.proofs.shelf.Tests.{both-ways, or-cases, or-parts}
 use Rattle.rules.specs.Tree.{Chain, Name, reached}
 use Rattle.rules.specs.Tree.Chain.{end, link}
+use Rattle.rules.specs.Grammar.{root}
 use Rattle.rules.specs.Refusals.{Outcome}
 use Rattle.rules.specs.Refusals.Outcome.{fine, refused}
-use Rattle.rules.specs.Grammar.{root}
 use Rattle.rules.specs.Held.{Formed}
 use Rattle.rules.specs.Counting.{events-of}
 use Rattle.rules.specs.Removal.{Config, at-root}
@@ -26,11 +26,11 @@ use Rattle.rules.specs.Calls.Repeated.{repeated, stopped}
 use Rattle.rules.specs.Law.{begun-on, tree-of, Removable, Counted, Repeat-kept}
 use Rattle.laws.specs.RepeatsLaw.{Repeats-law, Bound-never-ends}
 use Rattle.laws.proofs.Basics.{refused-fine}
-use Rattle.laws.proofs.RunsNumbered.{Numbered}
 use Rattle.laws.proofs.KeepsReached.{lost-reached}
-use Rattle.laws.proofs.RepeatsUsed.{pass-used}
+use Rattle.laws.proofs.RunsNumbered.{Numbered}
 use Rattle.laws.proofs.Runs.{Ready, begun-ready, Full, pass-result, result-ready, turn-cases, call-cases, called-one}
 use Rattle.laws.proofs.Runs.Result.{one-made}
+use Rattle.laws.proofs.RepeatsUsed.{pass-used}
 
 -- no removable function is left unused
 abbrev Used : Config → Chain → Type 0

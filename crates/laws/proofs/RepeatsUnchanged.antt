@@ -18,9 +18,9 @@ use Rattle.rules.specs.Names.{Under, under, under-nothing, declares, declaring,
 use Rattle.rules.specs.Counting.{Found, Around, nothing, _followed-by_, reading, writing, readings, marks, named-here, calls-eval, opens, inside, count}
 use Rattle.rules.specs.Removal.{By, Place, Left, Verdict, place-inside, entered, has-list, swept, verdict, done, treated, treat}
 use Rattle.rules.specs.Removal.Verdict.{stays, sweeps, empties, unlinks, restates, yields, unwraps}
-use Rattle.laws.proofs.Verdicts.{Means, means, treated-both, with-kind, by-list}
 use Rattle.laws.proofs.Basics.{each-member}
 use Rattle.laws.proofs.Formed.{formed-none}
+use Rattle.laws.proofs.Verdicts.{Means, means, treated-both, with-kind, by-list}
 use Rattle.laws.proofs.KeepsTable.{inner-ways}
 use Rattle.laws.proofs.KeepsFormed.{inner-kept}
 

@@ -12,10 +12,10 @@ use mathlib.Core.Bool.{Bool, true, false}
 use mathlib.Core.List.{List, [], _∷_, _++_}
 use mathlib.Core.Logic.{⊎-elim}
 use Rattle.rules.specs.Tree.{Chain, Name}
+use Rattle.rules.specs.Grammar.{root}
 use Rattle.rules.specs.Refusals.{Outcome}
 use Rattle.rules.specs.Refusals.Outcome.{fine, refused}
 use Rattle.rules.specs.Check.{check}
-use Rattle.rules.specs.Grammar.{root}
 use Rattle.rules.specs.Held.{Formed}
 use Rattle.rules.specs.Counting.{events-of}
 use Rattle.rules.specs.Tables.{Room, room, fill, no-rows, read-declared}
@@ -25,8 +25,8 @@ use Rattle.rules.specs.Calls.Call.{pass, reset, repeat}
 use Rattle.rules.specs.Law.{In, begun-on}
 use Rattle.rules.proofs.Sounds.{check-sound}
 use Rattle.rules.proofs.Fuel.{then-fine}
-use Rattle.laws.proofs.KeepsFormed.{keeps-formed}
 use Rattle.laws.proofs.Basics.{fine-eq, elim-both}
+use Rattle.laws.proofs.KeepsFormed.{keeps-formed}
 use Rattle.laws.proofs.TablesFilled.{filled}
 use Rattle.laws.proofs.TablesRoom.{fill-filled}
 use Rattle.laws.proofs.RunsNumbered.{Numbered, numbered-check, numbered-tables}

@@ -6,8 +6,8 @@
 use Prim.Native.Nat.{ℕ, _+_}
 use native.Mathlib.Omega.{arith}
 use mathlib.Core.Path.{_≡_, refl, sym, ap, _∙_, subst₂}
-use mathlib.Core.List.{List, [], _∷_}
 use mathlib.Core.Bool.{Bool, true, false, _||_, or-assoc}
+use mathlib.Core.List.{List, [], _∷_}
 use Rattle.std.proofs.shelf.Tests.{and-parts, and-from}
 use Rattle.rules.specs.Tree.{Name, if_then_else_}
 use Rattle.rules.specs.Names.{same}
@@ -15,8 +15,7 @@ use Rattle.rules.specs.Counting.{Event}
 use Rattle.rules.specs.Tables.{EdgeRow, Counts, some-row, edge-of, reads, writes}
 use Rattle.rules.specs.Rings.{total}
 use Rattle.rules.proofs.SameNames.{same-eq, same-refl}
-use Rattle.laws.proofs.Basics.{or-swap, or-twice}
-use Rattle.laws.proofs.Basics.{Commutes}
+use Rattle.laws.proofs.Basics.{or-swap, or-twice, Commutes}
 use Rattle.laws.proofs.TablesRows.{with-change, some-with-change, total-with-change}
 use Rattle.laws.proofs.TablesFilled.{new-edge, adds-edge, held-by, all-held, entered}
 

@@ -9,16 +9,15 @@
 use Prim.Native.Nat.{_+_}
 use native.Mathlib.Omega.{arith}
 use mathlib.Core.Path.{_≡_, refl, sym, ap, _∙_, subst}
-use mathlib.Core.List.{List, [], _∷_}
 use mathlib.Core.Bool.{Bool, true, false, cond, _&&_, _||_, or-assoc}
+use mathlib.Core.List.{List, [], _∷_}
 use Rattle.std.proofs.shelf.Tests.{false≢true}
 use Rattle.rules.specs.Tree.{Name}
 use Rattle.rules.specs.Names.{same}
 use Rattle.rules.specs.Counting.{Event}
 use Rattle.rules.specs.Tables.{NameRow, EdgeRow, Counts, some-row, fresh, look, row-of, edge-of, reads, writes}
 use Rattle.rules.proofs.SameNames.{same-eq}
-use Rattle.laws.proofs.Basics.{or-swap, or-twice, or-turn, cond-ap, cond-nest, cond-commutes, by-same}
-use Rattle.laws.proofs.Basics.{Commutes}
+use Rattle.laws.proofs.Basics.{or-swap, or-twice, or-turn, cond-ap, cond-nest, cond-commutes, by-same, Commutes}
 use Rattle.laws.proofs.TablesRows.{with-row, with-change, some-with-row, some-with-change}
 
 -- an edge's row before anything is counted
