@@ -22,7 +22,7 @@ use Rattle.rules.specs.Calls.{State, Handed, Pass, After, Call, Answer, handed-
 use Rattle.rules.specs.Calls.Call.{pass, reset, repeat}
 use Rattle.rules.specs.Calls.Answer.{pass-answer, repeat-answer}
 use Rattle.rules.specs.Law.{begun-on, tree-of, told, Telling, tellings, Reordered, Begun-alike, Same-lost}
-use Rattle.laws.specs.OrderLaw.{Order-law}
+use Rattle.laws.specs.Parts.{Order-law}
 use Rattle.laws.proofs.Runs.{turn}
 use Rattle.laws.proofs.OrderCount.{reached-turned}
 use Rattle.laws.proofs.OrderWords.{table-sizes, read-back}

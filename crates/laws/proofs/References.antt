@@ -22,7 +22,7 @@ use Rattle.rules.specs.Removal.{Config, at-root, unused, never-read, taken, gav
 use Rattle.rules.specs.Calls.{State, Pass, After, Call, Answer, cleared, pass-by, remove, passed, pass-once, passes-from, reached-by, call-fitting, call, calls, final, passes-made}
 use Rattle.rules.specs.Calls.Call.{pass, reset, repeat}
 use Rattle.rules.specs.Law.{In, Reference, Inside-ring, begun-on, tree-of}
-use Rattle.laws.specs.ReferencesLaw.{References-law}
+use Rattle.laws.specs.Parts.{References-law}
 use Rattle.laws.proofs.Basics.{in-append}
 use Rattle.laws.proofs.KeepsFormed.{keeps-formed}
 use Rattle.laws.proofs.Runs.{Later, later-then, Ready, begun-ready, Full, Result, pass-result, result-ready, turn-cases, call-cases, call-ready}

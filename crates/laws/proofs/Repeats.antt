@@ -24,7 +24,8 @@ use Rattle.rules.specs.Calls.Call.{pass, reset, repeat}
 use Rattle.rules.specs.Calls.Answer.{repeat-answer}
 use Rattle.rules.specs.Calls.Repeated.{repeated, stopped}
 use Rattle.rules.specs.Law.{begun-on, tree-of, Removable, Counted, Repeat-kept}
-use Rattle.laws.specs.RepeatsLaw.{Repeats-law, Bound-never-ends}
+use Rattle.laws.specs.Parts.{Repeats-law}
+use Rattle.laws.specs.RepeatsLaw.{Bound-never-ends}
 use Rattle.laws.proofs.Basics.{refused-fine}
 use Rattle.laws.proofs.KeepsReached.{lost-reached}
 use Rattle.laws.proofs.RunsNumbered.{Numbered}
