@@ -8,8 +8,8 @@
 use Prim.Native.Nat.{ℕ}
 use native.Mathlib.Omega.{arith}
 use mathlib.Core.Path.{_≡_, refl, ap, ap₂}
-use mathlib.Core.List.{List, [], _∷_}
 use mathlib.Core.Bool.{Bool, true, _&&_}
+use mathlib.Core.List.{List, [], _∷_}
 use lib.Dec.{leb}
 use lib.ListN.{length}
 use Rattle.std.proofs.shelf.Tests.{and-from, and-left, and-right}
@@ -18,10 +18,10 @@ use Rattle.rules.specs.Names.{among, declared}
 use Rattle.rules.specs.Counting.{events-of}
 use Rattle.rules.specs.Tables.{Room, no-rows, fill, declared-width, declared-in-words, read-declared}
 use Rattle.rules.specs.Calls.{Filled, declared-after, fill-declared, fill-tables}
-use Rattle.laws.proofs.OrderTidy.{tidy-filled, names-sizes, edges-sizes}
-use Rattle.laws.proofs.OrderRoom.{Bounded, then-bounded, all-declared, declare-bounded, fits, fill-bounded}
+use Rattle.laws.proofs.TablesRoom.{Bounded, then-bounded, all-declared, declare-bounded, fits, fill-bounded}
+use Rattle.laws.proofs.AlikeSizes.{tidy-filled, names-sizes, edges-sizes}
 use Rattle.laws.proofs.OrderCount.{Turned, counts, counts-turned, names-turned}
-use Rattle.laws.proofs.OrderHeads.{Nowhere}
+use Rattle.laws.proofs.OrderNowhere.{Nowhere}
 use Rattle.laws.proofs.OrderDeclared.{declared-names, declared-sizes, unnamed, symbols-of-tree}
 use Rattle.laws.proofs.OrderWords.{table-sizes, declared-words-sizes, read-back}
 

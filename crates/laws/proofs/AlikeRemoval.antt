@@ -4,7 +4,7 @@
 --   Left-alike, removed-alike      what is left of twins
 --   by-alike                       tables that tell the same
 use Prim.Native.Nat.{ℕ}
-use mathlib.Core.Path.{_≡_, sym, ap, _∙_, subst, subst₂}
+use mathlib.Core.Path.{_≡_, sym, ap, _∙_, subst₂}
 use mathlib.Core.Bool.{Bool, false, _||_}
 use Rattle.rules.specs.Tree.{Head, Chain, Name, below, unnumbered}
 use Rattle.rules.specs.Tree.Chain.{end, link}
@@ -12,16 +12,17 @@ use Rattle.rules.specs.Names.{among}
 use Rattle.rules.specs.Removal.{Config, By, Left, at-root, treat}
 use Rattle.rules.specs.Calls.{Filled, pass-by}
 use Rattle.rules.specs.Law.{Shuffled, item-at, Same-lost}
+use Rattle.laws.proofs.KeepsApart.{keeps-apart}
+use Rattle.laws.proofs.KeepsFormed.{keeps-formed}
 use Rattle.laws.proofs.AlikeTables.{Alike}
 use Rattle.laws.proofs.AlikeRings.{rows-alike}
 use Rattle.laws.proofs.UnnumberedRemoval.{treat-unnumbered}
 use Rattle.laws.proofs.OrderCount.{root-of, Turned}
 use Rattle.laws.proofs.OrderCount.Turned.{roots}
 use Rattle.laws.proofs.OrderRemoval.{top, not-in-for, remains, remains-shuffled, changed-shuffled, remains-unnumbered, root-treated}
-use Rattle.laws.proofs.OrderHeads.{nowhere-below, nowhere-treated, asm-string, asm-unmade, asm-free}
-use Rattle.laws.proofs.OrderSlots.{Items, remains-at, remains-items}
-use Rattle.laws.proofs.OrderDeclared.{unnamed, unnamed-unmade}
-use Rattle.laws.proofs.OrderStart.{Twins}
+use Rattle.laws.proofs.OrderNowhere.{nowhere-below, nowhere-treated, asm-string, asm-unmade, asm-free}
+use Rattle.laws.proofs.OrderItems.{Items, remains-at}
+use Rattle.laws.proofs.OrderTwins.{Twins, root-items}
 
 pub record Left-alike (c d : Chain) (x y : Left) : Type 0 where
   pub lost : Same-lost c d (x .chain) (y .chain)
@@ -49,17 +50,19 @@ module _ (by : By) (unseen : (c : Chain) → (by .config .acts) (unnumbered c) �
     let c = link (root-of m h) cs end in
     let d = link (root-of m g) ds end in
     let p = root-treated by m h cs (asm-free cs (nowhere-below asm-string c (t .without-asm))) in
+    let i = root-items m h cs (t .formed) (t .apart) in
+    let j = root-items m g ds (t .formed-too) (t .apart-too) in
     let q = root-treated by m g ds (asm-free ds (nowhere-below asm-string d (t .without-asm-too))) in
     record {
-      lost = λ a b e. ap (λ (l : Left). item-at a (below (l .chain))) p ∙ (lost-alike m cs ds (t .items) (t .items-too) a b e ∙ sym (ap (λ (l : Left). item-at b (below (l .chain))) q));
+      lost = λ a b e. ap (λ (l : Left). item-at a (below (l .chain))) p ∙ (lost-alike m cs ds i j a b e ∙ sym (ap (λ (l : Left). item-at b (below (l .chain))) q));
       twins = record {
         turned = subst₂ (λ (x y : Left). Turned (x .chain) (y .chain)) (sym p) (sym q) (roots m h g (left-shuffled m cs ds s));
-        items = subst (λ (x : Left). Items (below (x .chain))) (sym p) (remains-items by unseen (top m) (not-in-for m) cs (t .items));
-        items-too = subst (λ (x : Left). Items (below (x .chain))) (sym q) (remains-items by unseen (top m) (not-in-for m) ds (t .items-too));
+        formed = keeps-formed by c (t .formed);
+        formed-too = keeps-formed by d (t .formed-too);
+        apart = keeps-apart by at-root c (t .apart);
+        apart-too = keeps-apart by at-root d (t .apart-too);
         without-asm = nowhere-treated asm-string asm-unmade by at-root c (t .without-asm);
-        without-asm-too = nowhere-treated asm-string asm-unmade by at-root d (t .without-asm-too);
-        named = nowhere-treated unnamed unnamed-unmade by at-root c (t .named);
-        named-too = nowhere-treated unnamed unnamed-unmade by at-root d (t .named-too) };
+        without-asm-too = nowhere-treated asm-string asm-unmade by at-root d (t .without-asm-too) };
       changed = ap (λ (l : Left). l .changed) p ∙ (ap (λ (b : Bool). b || false) (changed-alike m cs ds s) ∙ sym (ap (λ (l : Left). l .changed) q)) }
 
   turned-alike : {c d : Chain} → Turned c d → Twins c d → Left-alike c d (treat by at-root c) (treat by at-root d)

@@ -4,21 +4,22 @@
 --   leads-alike, component-alike      edges lead alike; components have the same names
 --   closed-alike, discount-alike      closed rings; a discounted row
 --   rows-alike                        a name's row after the rings are discounted
-use mathlib.Core.Path.{_≡_, refl, sym, ap, ap₂, _∙_, subst, fun-ext}
+use mathlib.Core.Path.{_≡_, sym, ap, ap₂, _∙_, subst, fun-ext}
+use mathlib.Core.Bool.{Bool, true, false, _&&_, not}
 use mathlib.Core.List.{List, [], _∷_}
-use mathlib.Core.Bool.{Bool, true, false, cond, _&&_, _||_, not}
 use mathlib.Core.Logic.{inl, inr}
 use Rattle.std.proofs.shelf.Tests.{false≢true, and-from, or-cases, or-left, or-right, not-true, not-from-false}
 use Rattle.rules.specs.Tree.{Name, if_then_else_}
 use Rattle.rules.specs.Names.{same, among}
 use Rattle.rules.specs.Tables.{NameRow, EdgeRow, Counts, fresh, look}
-use Rattle.rules.specs.Rings.{Edge, Leads, component, has-other, closed, minus, less, discount-row, discount-rows, discount}
+use Rattle.rules.specs.Rings.{Edge, Leads, component, has-other, closed, minus, less, discount-row, discount}
 use Rattle.rules.specs.Rings.Leads.{here, onward}
 use Rattle.rules.proofs.SameNames.{same-eq, same-refl}
 use Rattle.rules.proofs.Leading.{component-told}
-use Rattle.laws.proofs.OrderNames.{bool-eq}
-use Rattle.laws.proofs.OrderTables.{some-name, some-entry}
-use Rattle.laws.proofs.OrderEdges.{edge-eq, some-edge, weights}
+use Rattle.laws.proofs.Basics.{bool-eq}
+use Rattle.laws.proofs.TablesFilled.{some-entry}
+use Rattle.laws.proofs.TablesEdges.{edge-eq, some-edge, weights}
+use Rattle.laws.proofs.RingsDiscount.{look-discount}
 use Rattle.laws.proofs.AlikeTables.{Alike}
 
 -- the test of an edge's two names
@@ -39,13 +40,13 @@ leads-more : (es fs : List EdgeRow) → ((a b : Name) → Edge es a b → Edge f
 leads-more es fs h a here = here
 leads-more es fs h a (onward {b} {c} l e) = onward (leads-more es fs h a l) (h b c e)
 
-pub leads-alike : (es fs : List EdgeRow) → ((p : Name → Name → Bool) → some-edge p es ≡ some-edge p fs) → (a b : Name) → Leads es a b → Leads fs a b
+leads-alike : (es fs : List EdgeRow) → ((p : Name → Name → Bool) → some-edge p es ≡ some-edge p fs) → (a b : Name) → Leads es a b → Leads fs a b
 leads-alike es fs h a b = leads-more es fs (λ x y e. found-edge fs x y (sym (h (is x y)) ∙ edge-found es x y e)) a
 
 component-more : (es fs : List EdgeRow) → ((p : Name → Name → Bool) → some-edge p es ≡ some-edge p fs) → (a b : Name) → among b (component es a) ≡ true → among b (component fs a) ≡ true
 component-more es fs h a b q = let l = component-told es a b .0 q in component-told fs a b .1 (leads-alike es fs h a b (l .0), leads-alike es fs h b a (l .1))
 
-pub component-alike : (es fs : List EdgeRow) → ((p : Name → Name → Bool) → some-edge p es ≡ some-edge p fs) → (a b : Name) → among b (component es a) ≡ among b (component fs a)
+component-alike : (es fs : List EdgeRow) → ((p : Name → Name → Bool) → some-edge p es ≡ some-edge p fs) → (a b : Name) → among b (component es a) ≡ among b (component fs a)
 component-alike es fs h a b = bool-eq (among b (component es a)) (among b (component fs a)) (component-more es fs h a b) (component-more fs es (λ p. sym (h p)) a b)
 
 -- another name than n
@@ -64,7 +65,7 @@ other-of n (x ∷ ms) h = elim (or-cases (not (same n x)) (has-other n ms) h) [
 other-more : (n : Name) (xs ys : List Name) → ((m : Name) → among m xs ≡ among m ys) → has-other n xs ≡ true → has-other n ys ≡ true
 other-more n xs ys h q = let o = other-of n xs q in other-from n (o .0) ys (sym (h (o .0)) ∙ o .1) (o .2)
 
-pub other-alike : (n : Name) (xs ys : List Name) → ((m : Name) → among m xs ≡ among m ys) → has-other n xs ≡ has-other n ys
+other-alike : (n : Name) (xs ys : List Name) → ((m : Name) → among m xs ≡ among m ys) → has-other n xs ≡ has-other n ys
 other-alike n xs ys h = bool-eq (has-other n xs) (has-other n ys) (other-more n xs ys h) (other-more n ys xs (λ m. sym (h m)))
 
 -- a name shares n's ring
@@ -84,17 +85,6 @@ less-by t es r = record {
   entry = r .entry;
   counted = r .counted }
 
--- a discounted row keeps its name
-name-kept : (c : Counts) (r : NameRow) → discount-row c r .name ≡ r .name
-name-kept c r = elim (closed c (r .name)) as (λ b. (if b then less (component (c .edges) (r .name)) (c .edges) r else r) .name ≡ r .name) [ true ↦ refl | false ↦ refl ]
-
-look-discount : (c : Counts) (n : Name) (rs : List NameRow) → look n (discount-rows c rs) ≡ (if some-name (same n) rs then discount-row c (look n rs) else fresh n)
-look-discount c n [] = refl
-look-discount c n (r ∷ rs) =
-  ap (λ (m : Name). if same n m then discount-row c r else look n (discount-rows c rs)) (name-kept c r)
-  ∙ elim (same n (r .name)) as (λ b. cond b (discount-row c r) (look n (discount-rows c rs)) ≡ cond (b || some-name (same n) rs) (discount-row c (cond b r (look n rs))) (fresh n))
-    [ true ↦ refl | false ↦ look-discount c n rs ]
-
 module _ (c d : Counts) (k : Alike c d) where
   ring-alike : (n m : Name) → among m (component (c .edges) n) ≡ among m (component (d .edges) n)
   ring-alike n = component-alike (c .edges) (d .edges) (k .edges) n
@@ -105,7 +95,7 @@ module _ (c d : Counts) (k : Alike c d) where
   closed-by-alike : (other : Bool) (t : Name → Bool) → closed-by other t c ≡ closed-by other t d
   closed-by-alike other t = ap₂ (λ (x y : Bool). other && (not x && not y)) (k .entries t) (k .edges (λ a b. t b && not (t a)))
 
-  pub closed-alike : (n : Name) → closed c n ≡ closed d n
+  closed-alike : (n : Name) → closed c n ≡ closed d n
   closed-alike n =
     ap₂ (λ (b : Bool) (t : Name → Bool). closed-by b t c) (other-alike n (component (c .edges) n) (component (d .edges) n) (ring-alike n)) (tests-alike n)
     ∙ closed-by-alike (has-other n (component (d .edges) n)) (in-ring d n)
@@ -121,7 +111,7 @@ module _ (c d : Counts) (k : Alike c d) where
   less-alike : (n : Name) (r : NameRow) → less (component (c .edges) n) (c .edges) r ≡ less (component (d .edges) n) (d .edges) r
   less-alike n r = ap (λ (t : Name → Bool). less-by t (c .edges) r) (tests-alike n) ∙ less-by-alike (in-ring d n) r
 
-  pub discount-alike : (r : NameRow) → discount-row c r ≡ discount-row d r
+  discount-alike : (r : NameRow) → discount-row c r ≡ discount-row d r
   discount-alike r = ap₂ (λ (b : Bool) (x : NameRow). if b then x else r) (closed-alike (r .name)) (less-alike (r .name) r)
 
   pub rows-alike : (n : Name) → look n (discount c) ≡ look n (discount d)

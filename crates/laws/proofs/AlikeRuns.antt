@@ -1,52 +1,34 @@
 -- Runs from twins: call by call both states tell the same, so the answers do, and each loses what the other loses.
 --
---   passes-even, repeat-even       passes until one changes nothing
+--   turn-even, passes-even         passes until one changes nothing
 --   Called, call-even              a call
 --   calls-even, final-even         a list of calls
 --   start-even                     shakers begun alike on trees that differ only in the order of items
 --   order-law                      the law
 use Prim.Native.Nat.{ℕ, zero, suc, _+_}
 use mathlib.Core.Path.{_≡_, refl, sym, ap, ap₂, _∙_, subst, subst₂}
-use mathlib.Core.List.{List, [], _∷_, _++_}
 use mathlib.Core.Bool.{Bool, true, false}
+use mathlib.Core.List.{List, [], _∷_}
 use lib.ListN.{length}
 use Rattle.std.proofs.shelf.Tests.{true≢false, false≢true}
 use Rattle.std.proofs.shelf.Lists.{length-append}
 use Rattle.rules.specs.Tree.{Chain}
 use Rattle.rules.specs.Refusals.{Outcome}
 use Rattle.rules.specs.Refusals.Outcome.{fine, refused}
-use Rattle.rules.specs.Judges.{Lawful}
 use Rattle.rules.specs.Tables.{declared-width, names-width, edges-width, read-declared}
+use Rattle.rules.specs.Judges.{Lawful}
 use Rattle.rules.specs.Removal.{Config}
 use Rattle.rules.specs.Calls.{State, Handed, Pass, After, Call, Answer, handed-fit, zeroed, cleared, pass-once, passes-from, reached-by, repeat-ended, call-fitting, unfit-answer, call, calls, final}
 use Rattle.rules.specs.Calls.Call.{pass, reset, repeat}
 use Rattle.rules.specs.Calls.Answer.{pass-answer, repeat-answer}
 use Rattle.rules.specs.Law.{begun-on, tree-of, told, Telling, tellings, Reordered, Begun-alike, Same-lost}
-use Rattle.laws.specs.OrderLaw.{Order-law}
+use Rattle.laws.specs.Parts.{Order-law}
+use Rattle.laws.proofs.Runs.{turn}
 use Rattle.laws.proofs.OrderCount.{reached-turned}
 use Rattle.laws.proofs.OrderWords.{table-sizes, read-back}
-use Rattle.laws.proofs.OrderStart.{Twins, reordered-twins}
+use Rattle.laws.proofs.OrderTwins.{Twins, reordered-twins}
 use Rattle.laws.proofs.AlikeFilling.{Held-alike}
 use Rattle.laws.proofs.AlikeStates.{tree, Even, handed-even, cleared-even, Both, Ran, pass-even}
-
--- what follows a pass in a repeat
-abbrev resumed : Config → (left : ℕ) → Outcome Bool → State → List Pass → After (Outcome Bool)
-resumed k left (refused number at) s made = record { answer = refused number at; state = s; made = made }
-resumed k left (fine true) s made =
-  let more = passes-from k left (cleared s) in record { answer = more .answer; state = more .state; made = made ++ more .made }
-resumed k left (fine false) s made = record { answer = fine false; state = s; made = made }
-
-resumed-is : (k : Config) (left : ℕ) (a : Outcome Bool) (s : State) (made : List Pass) →
-  let one : After (Outcome Bool) = record { answer = a; state = s; made = made } in
-  _≡_ {A = After (Outcome Bool)} (elim (one .answer) [
-    refused number at ↦ one
-  | fine changed ↦ elim changed [
-      true ↦ (let more = passes-from k left (cleared (one .state)) in
-        record { answer = more .answer; state = more .state; made = one .made ++ more .made })
-    | false ↦ one ] ]) (resumed k left a s made)
-resumed-is k left (refused number at) s made = refl
-resumed-is k left (fine true) s made = refl
-resumed-is k left (fine false) s made = refl
 
 -- calls that go alike from two trees
 pub record Called (c d : Chain) (x y : After Answer) : Type 0 where
@@ -77,15 +59,15 @@ module _ (k : Config) (lawful : Lawful (k .acts)) where
   abbrev Going : ℕ → Type 0
   Going left = (s u : State) → Even s u → Ran (tree s) (tree u) (passes-from k left s) (passes-from k left u)
 
-  resumed-even : (left : ℕ) → Going left → (c d : Chain) (a b : Outcome Bool) (s u : State) (made made′ : List Pass) → Both a b → length made ≡ length made′ → Same-lost c d (tree s) (tree u) → Even s u
-    → Ran c d (resumed k left a s made) (resumed k left b u made′)
-  resumed-even left go c d (refused number at) (refused number′ at′) s u made made′ p q lost e = record { answer = tt; made = q; lost = lost; even = e }
-  resumed-even left go c d (refused number at) (fine b) s u made made′ p q lost e = absurd p
-  resumed-even left go c d (fine a) (refused number at) s u made made′ p q lost e = absurd p
-  resumed-even left go c d (fine true) (fine false) s u made made′ p q lost e = absurd (true≢false p)
-  resumed-even left go c d (fine false) (fine true) s u made made′ p q lost e = absurd (false≢true p)
-  resumed-even left go c d (fine false) (fine false) s u made made′ p q lost e = record { answer = refl; made = q; lost = lost; even = e }
-  resumed-even left go c d (fine true) (fine true) s u made made′ p q lost e =
+  turn-even : (left : ℕ) → Going left → (c d : Chain) (a b : Outcome Bool) (s u : State) (made made′ : List Pass) → Both a b → length made ≡ length made′ → Same-lost c d (tree s) (tree u) → Even s u
+    → Ran c d (turn (record { answer = a; state = s; made = made }) (passes-from k left)) (turn (record { answer = b; state = u; made = made′ }) (passes-from k left))
+  turn-even left go c d (refused number at) (refused number′ at′) s u made made′ p q lost e = record { answer = tt; made = q; lost = lost; even = e }
+  turn-even left go c d (refused number at) (fine b) s u made made′ p q lost e = absurd p
+  turn-even left go c d (fine a) (refused number at) s u made made′ p q lost e = absurd p
+  turn-even left go c d (fine true) (fine false) s u made made′ p q lost e = absurd (true≢false p)
+  turn-even left go c d (fine false) (fine true) s u made made′ p q lost e = absurd (false≢true p)
+  turn-even left go c d (fine false) (fine false) s u made made′ p q lost e = record { answer = refl; made = q; lost = lost; even = e }
+  turn-even left go c d (fine true) (fine true) s u made made′ p q lost e =
     let r = go (cleared s) (cleared u) (cleared-even s u e) in
     let more = passes-from k left (cleared s) .made in
     let more′ = passes-from k left (cleared u) .made in
@@ -101,8 +83,7 @@ module _ (k : Config) (lawful : Lawful (k .acts)) where
     let one = pass-once k s in
     let one′ = pass-once k u in
     let r = pass-even k lawful s u e in
-    subst₂ (Ran (tree s) (tree u)) (sym (resumed-is k left (one .answer) (one .state) (one .made))) (sym (resumed-is k left (one′ .answer) (one′ .state) (one′ .made)))
-      (resumed-even left (passes-even left) (tree s) (tree u) (one .answer) (one′ .answer) (one .state) (one′ .state) (one .made) (one′ .made) (r .answer) (r .made) (r .lost) (r .even))
+    turn-even left (passes-even left) (tree s) (tree u) (one .answer) (one′ .answer) (one .state) (one′ .state) (one .made) (one′ .made) (r .answer) (r .made) (r .lost) (r .even)
 
   first-even : (s u : State) → Even s u → reached-by (s .tree) ≡ reached-by (u .tree)
   first-even s u e = ap reached-by (e .found) ∙ (reached-turned (e .twins .turned) ∙ sym (ap reached-by (e .found-too)))

@@ -5,14 +5,14 @@
 --   Exchanged       the same events, in whatever order
 --   alike           exchanged events fill tables alike
 use mathlib.Core.Path.{_≡_, refl, sym, ap, _∙_}
-use mathlib.Core.List.{List, [], _∷_}
 use mathlib.Core.Bool.{Bool}
+use mathlib.Core.List.{List, [], _∷_}
 use Rattle.rules.specs.Tree.{Name}
 use Rattle.rules.specs.Counting.{Event}
 use Rattle.rules.specs.Tables.{Counts, look}
-use Rattle.laws.proofs.Shuffles.{fold, Commutes}
-use Rattle.laws.proofs.OrderTables.{entered, filled, seen, look-entered, seen-commutes, some-name, named, some-name-entered, named-commutes, some-entry, entries, some-entry-entered, entries-commute}
-use Rattle.laws.proofs.OrderEdges.{some-edge, edged, some-edge-entered, edged-commutes, weights, weighed, weights-entered, weighed-commutes}
+use Rattle.laws.proofs.Basics.{fold, Commutes}
+use Rattle.laws.proofs.TablesFilled.{entered, filled, seen, look-entered, seen-commutes, some-name, named, some-name-entered, named-commutes, some-entry, entries, some-entry-entered, entries-commute}
+use Rattle.laws.proofs.TablesEdges.{some-edge, edged, some-edge-entered, edged-commutes, weights, weighed, weights-entered, weighed-commutes}
 
 pub record Alike (c d : Counts) : Type 0 where
   pub looks : (n : Name) → look n (c .names) ≡ look n (d .names)

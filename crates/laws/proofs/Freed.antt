@@ -2,8 +2,8 @@
 -- never read. A reference to such a name that was counted has holders, all of its closed ring: outside closed rings the row is
 -- as counted, and would not be free; in one, each holder has its edge, and without a holder the name would be an entry.
 --
---   Within, unused-within, unread-within      the references to a free name
---   taken-unused, gave-unread                 the names taken and given
+--   Held-in-ring, unused-within, unread-within      the references to a free name
+--   taken-unused, gave-unread                       the names taken and given
 use Prim.Native.Nat.{_≤_}
 use native.Mathlib.Omega.{arith}
 use mathlib.Core.Path.{_≡_, refl, sym, subst, _∙_}
@@ -16,17 +16,18 @@ use Rattle.rules.specs.Tree.{Head, Chain, Name, if_then_else_, flagged, isEnd, 
 use Rattle.rules.specs.Tree.Chain.{end, link}
 use Rattle.rules.specs.Kinds.{name-pattern}
 use Rattle.rules.specs.Names.{among}
-use Rattle.rules.specs.Refusals.Outcome.{fine}
 use Rattle.rules.specs.Counting.{Event, unheld}
-use Rattle.rules.specs.Tables.{NameRow, Counts, Room, fill, no-rows, look, writes}
+use Rattle.rules.specs.Tables.{NameRow, Counts, no-rows, look, writes}
 use Rattle.rules.specs.Rings.{component, closed, discount}
 use Rattle.rules.specs.Removal.{Config, By, Place, Verdict, unused, never-read, can-drop-binding, name-goes, all-go, place-inside, entered, verdict, treat, declarator-names, takes, gives, taken, gave}
 use Rattle.rules.specs.Removal.Verdict.{stays, sweeps, empties, unlinks, restates, yields, unwraps}
 use Rattle.rules.specs.Law.{In, Reference}
-use Rattle.laws.proofs.Listed.{in-append}
+use Rattle.laws.proofs.Basics.{in-append, in-if}
 use Rattle.laws.proofs.Verdicts.{Unused, Means, means, can-unused}
-use Rattle.laws.proofs.Graphs.{event-row, event-edge}
-use Rattle.laws.proofs.ClosedRings.{closed-edge, closed-entry, open-row}
+use Rattle.laws.proofs.TablesFilled.{filled}
+use Rattle.laws.proofs.TablesTold.{event-row, event-edge}
+use Rattle.laws.proofs.RingsDiscount.{open-row}
+use Rattle.laws.proofs.RingsClosed.{closed-edge, closed-entry}
 
 -- ROWS
 
@@ -40,37 +41,41 @@ unread-zero : (k : Config) (r : NameRow) → never-read k r ≡ true → r .usag
 unread-zero k r g = eqb-true (r .usage) 0 (and-parts (eqb (r .usage) 0) (k .top-level || not (r .entry)) (and-parts (r .counted) _ g .1) .0)
 
 -- the references to a name that is free: it stands in a closed ring, and its references have holders, all of that ring
-pub record Within (c : Counts) (e : Event) : Type 0 where
+pub record Held-in-ring (c : Counts) (e : Event) : Type 0 where
   pub ring : closed c (e .name) ≡ true
   pub held : unheld (e .holders) ≡ false
   pub shares : (m : Name) → In m (e .holders) → among m (component (c .edges) (e .name)) ≡ true
 
-module _ (space : Room) (es : List Event) (c : Counts) (full : fill space es no-rows ≡ fine c) (e : Event) (r : Reference e) (x : In e es) where
-  closed-within : closed c (e .name) ≡ true → Within c e
+module _ (es : List Event) (e : Event) (r : Reference e) (x : In e es) where
+  -- the tables that the events fill
+  abbrev c : Counts
+  c = filled es no-rows
+
+  closed-within : closed c (e .name) ≡ true → Held-in-ring c e
   closed-within g = record {
     ring = g;
     held = ⊎-elim
-      (λ u. absurd (closed-entry c (e .name) g (event-row (λ (s : NameRow). s .entry ≡ true) (λ v s y. or-left (s .entry) (v .entry) y) e (λ s. or-right (s .entry) (e .entry) (r ∙ u)) space es no-rows c full x)))
+      (λ u. absurd (closed-entry c (e .name) g (event-row (λ (s : NameRow). s .entry ≡ true) (λ v s y. or-left (s .entry) (v .entry) y) e (λ s. or-right (s .entry) (e .entry) (r ∙ u)) es no-rows x)))
       (λ u. u) (cases-bool (unheld (e .holders)));
-    shares = λ m h. closed-edge c m (e .name) g (event-edge e m h space es no-rows c full x) }
+    shares = λ m h. closed-edge c m (e .name) g (λ p y. event-edge p e m h y es no-rows x) }
 
   is-counted : look (e .name) (c .names) .counted ≡ true
-  is-counted = event-row (λ (s : NameRow). s .counted ≡ true) (λ v s y. refl) e (λ s. refl) space es no-rows c full x
+  is-counted = event-row (λ (s : NameRow). s .counted ≡ true) (λ v s y. refl) e (λ s. refl) es no-rows x
 
   is-read : e .writes ≡ false → 1 ≤ look (e .name) (c .names) .usage
-  is-read w = event-row (λ (s : NameRow). 1 ≤ s .usage) (λ v s y. omega arith) e (λ s. rw w (omega arith)) space es no-rows c full x
+  is-read w = event-row (λ (s : NameRow). 1 ≤ s .usage) (λ v s y. omega arith) e (λ s. rw w (omega arith)) es no-rows x
 
   is-written : e .writes ≡ true → 1 ≤ look (e .name) (c .names) .assign
-  is-written w = event-row (λ (s : NameRow). 1 ≤ s .assign) (λ v s y. omega arith) e (λ s. rw w (omega arith)) space es no-rows c full x
+  is-written w = event-row (λ (s : NameRow). 1 ≤ s .assign) (λ v s y. omega arith) e (λ s. rw w (omega arith)) es no-rows x
 
-  pub unused-within : unused (look (e .name) (discount c)) ≡ true → Within c e
+  pub unused-within : unused (look (e .name) (discount c)) ≡ true → Held-in-ring c e
   unused-within h = ⊎-elim closed-within
     (λ g.
       let z = unused-zero (look (e .name) (c .names)) (subst (λ (s : NameRow). unused s ≡ true) (open-row c (e .name) g) h) is-counted in
       absurd (⊎-elim (λ w. omega (arith, is-written w, z .1)) (λ w. omega (arith, is-read w, z .0)) (cases-bool (e .writes))))
     (cases-bool (closed c (e .name)))
 
-  pub unread-within : (k : Config) → e .writes ≡ false → never-read k (look (e .name) (discount c)) ≡ true → Within c e
+  pub unread-within : (k : Config) → e .writes ≡ false → never-read k (look (e .name) (discount c)) ≡ true → Held-in-ring c e
   unread-within k w h = ⊎-elim closed-within
     (λ g.
       let z = unread-zero k (look (e .name) (c .names)) (subst (λ (s : NameRow). never-read k s ≡ true) (open-row c (e .name) g) h) in
@@ -108,11 +113,6 @@ gives-unread by p h found children n restates m x = absurd x
 gives-unread by p h found children n (yields k) m x = ⊎-elim (λ y. subst (λ (j : Name). never-read (by .config) ((by .row) j) ≡ true) (sym y) (m .free)) (λ y. absurd y) x
 gives-unread by p h found children n unwraps m x = absurd x
 
--- a name of a part that is there only under a test
-in-part : (n : Name) (b : Bool) (ns : List Name) → In n (if b then ns else []) → In n ns
-in-part n true ns x = x
-in-part n false ns x = absurd x
-
 pub taken-unused : (by : By) (n : Name) (c : Chain) (p : Place) → In n (taken by p c) → unused ((by .row) n) ≡ true
 taken-unused by n end p x = absurd x
 taken-unused by n (link h cs rest) p x =
@@ -121,7 +121,7 @@ taken-unused by n (link h cs rest) p x =
   let under = taken by (place-inside p h) cs in
   ⊎-elim
     (λ y. ⊎-elim (takes-unused by p h cs bs n (verdict by p h cs bs) (means by p h cs bs)) (taken-unused by n cs (place-inside p h))
-      (in-append n mine under (in-part n (entered p h cs (isEnd rest)) (mine ++ under) y)))
+      (in-append n mine under (in-if n (entered p h cs (isEnd rest)) (mine ++ under) y .1)))
     (taken-unused by n rest p)
     (in-append n (if entered p h cs (isEnd rest) then mine ++ under else []) (taken by p rest) x)
 
@@ -133,6 +133,6 @@ gave-unread by n (link h cs rest) p x =
   let under = gave by (place-inside p h) cs in
   ⊎-elim
     (λ y. ⊎-elim (gives-unread by p h cs bs n (verdict by p h cs bs) (means by p h cs bs)) (gave-unread by n cs (place-inside p h))
-      (in-append n mine under (in-part n (entered p h cs (isEnd rest)) (mine ++ under) y)))
+      (in-append n mine under (in-if n (entered p h cs (isEnd rest)) (mine ++ under) y .1)))
     (gave-unread by n rest p)
     (in-append n (if entered p h cs (isEnd rest) then mine ++ under else []) (gave by p rest) x)

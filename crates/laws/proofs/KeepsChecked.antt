@@ -18,38 +18,36 @@ use Rattle.rules.specs.Removal.{By, Place, Left, Verdict, at-root, place-inside
 use Rattle.rules.specs.Removal.Verdict.{stays, sweeps, empties, unlinks, restates, yields, unwraps}
 use Rattle.rules.proofs.Sounds.{check-sound, check-complete}
 use Rattle.laws.specs.KeepsTree.{Keeps-root, Checked-again}
-use Rattle.laws.proofs.KeepsMeans.{Means, means, Emptied, Unlinked}
-use Rattle.laws.proofs.KeepsMeans.Emptied.{fn, class, importing, var}
-use Rattle.laws.proofs.KeepsMeans.Unlinked.{declaring, specifying}
-use Rattle.laws.proofs.KeepsCount.{keeps-apart}
+use Rattle.laws.proofs.Basics.{each-member}
+use Rattle.laws.proofs.Formed.{formed-one}
+use Rattle.laws.proofs.Verdicts.{Means, means, Emptying, emptying-kinds, emptying-kind, Unlinking}
+use Rattle.laws.proofs.Verdicts.Unlinking.{declares, specifies}
+use Rattle.laws.proofs.KeepsApart.{keeps-apart}
 use Rattle.laws.proofs.KeepsLevel.{keeps-level}
-use Rattle.laws.proofs.KeepsLists.{one-first}
 use Rattle.laws.proofs.KeepsFormed.{keeps-formed}
 
 -- a root's kind
-abbrev root-kind : ℕ → Bool
-root-kind k = eqb k module-root || eqb k script-root
+abbrev a-root : ℕ → Bool
+a-root k = eqb k module-root || eqb k script-root
 
-module _ (by : By) (p : Place) (h : Head) (is-root : root-kind (h .kind) ≡ true) where
+module _ (by : By) (p : Place) (h : Head) (is-root : a-root (h .kind) ≡ true) where
   -- a record of another kind is no root
-  other : (k : ℕ) → root-kind k ≡ false → h .kind ≡ k → ⊥
-  other k e s = both-ways (root-kind k) e (subst (λ (j : ℕ). root-kind j ≡ true) s is-root)
+  other : (k : ℕ) → a-root k ≡ false → h .kind ≡ k → ⊥
+  other k e s = both-ways (a-root k) e (subst (λ (j : ℕ). a-root j ≡ true) s is-root)
 
-  emptied-other : (found children : Chain) → Emptied p h found children → ⊥
-  emptied-other found children (fn k x) = other _ refl k
-  emptied-other found children (class k x) = other _ refl k
-  emptied-other found children (importing k x) = other _ refl k
-  emptied-other found children (var k x) = other _ refl k
+  emptied-other : (found children : Chain) → Emptying p h found children → ⊥
+  emptied-other found children m =
+    both-ways (a-root (h .kind)) (each-member (λ (k : ℕ). a-root k ≡ false) (h .kind) emptying-kinds (refl, (refl, (refl, (refl, tt)))) (emptying-kind p h found children m)) is-root
 
-  unlinked-other : Unlinked p h → ⊥
-  unlinked-other (declaring k x) = other _ refl k
-  unlinked-other (specifying k) = other _ refl k
+  unlinked-other : Unlinking p h → ⊥
+  unlinked-other (declares k x) = other _ refl k
+  unlinked-other (specifies k) = other _ refl k
 
   done-root : (found : Chain) (inner : Left) (v : Verdict) → Means by p h found (inner .chain) v → (remaining : Chain) × (done v h inner .chain ≡ link h remaining end)
   done-root found inner stays m = (inner .chain, refl)
   done-root found inner sweeps m = (_, refl)
-  done-root found inner (empties names) m = absurd (emptied-other found (inner .chain) m)
-  done-root found inner (unlinks name) m = absurd (unlinked-other m)
+  done-root found inner (empties names) m = absurd (emptied-other found (inner .chain) (m .which))
+  done-root found inner (unlinks name) m = absurd (unlinked-other (m .which))
   done-root found inner restates m = absurd (other _ refl (m .kind))
   done-root found inner (yields name) m = absurd (other _ refl (m .kind))
   done-root found inner unwraps m = absurd (other _ refl (m .kind))
@@ -62,9 +60,9 @@ pub keeps-root : Keeps-root
 keeps-root by end f = absurd (both-ways false refl f)
 keeps-root by (link h children end) f =
   let inner = treat by (place-inside at-root h) children in
-  let t = treated-root by at-root h (one-first root-kind [] h children end f .0) (entered at-root h children true) children inner in
+  let t = treated-root by at-root h (formed-one a-root [] (link h children end) f .0) (entered at-root h children true) children inner in
   record { head = h; children = children; remaining = t .0; found-is = refl; left-is = ap (λ (d : Chain). append d end) (t .1) }
-keeps-root by (link h children (link g under rest)) f = absurd (both-ways true (one-first root-kind [] h children (link g under rest) f .1 .1) refl)
+keeps-root by (link h children (link g under rest)) f = absurd (both-ways true (formed-one a-root [] (link h children (link g under rest)) f .1 .1) refl)
 
 -- nothing follows the one record that words hold
 held-alone : (words : List ℕ) (h : Head) (children c : Chain) → c ≡ link h children end → Holds words 1 c → next words 1 ≡ 0

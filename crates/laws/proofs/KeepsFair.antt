@@ -79,7 +79,7 @@ abbrev pub fair : List ℕ → List Way → Bool
 fair ks [] = true
 fair ks (way ∷ ways) = fair-way ks way && fair ks ways
 
-pub all-member : (test : ℕ → Bool) (ks : List ℕ) (k : ℕ) → all-of test ks ≡ true → member k ks ≡ true → test k ≡ true
+all-member : (test : ℕ → Bool) (ks : List ℕ) (k : ℕ) → all-of test ks ≡ true → member k ks ≡ true → test k ≡ true
 all-member test [] k a m = absurd (both-ways false refl m)
 all-member test (j ∷ ks) k a m =
   let p = and-parts (test j) (all-of test ks) a in

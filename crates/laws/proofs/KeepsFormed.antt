@@ -2,113 +2,72 @@
 -- a record that stays keeps its place, and its children are formed by induction; one that gives way does so to a stand-in, among
 -- whose ways on are its own; one that is unlinked stood where any number may stand.
 --
---   Record-formed, First-formed                       a record as the table has it; the first record of a chain
---   wraps-first, expression-stands, children-swept    an Object is wrapped; an expression is a stand-in; swept children
+--   expression-stands, children-swept                 an expression is a stand-in; swept children
 --   yielded-formed, unwrapped-formed                  what takes the place of an Assignment, and of a wrapped Call
 --   done-formed                                       what is left of one record, and what follows
 --   entered-last, var-inward                          a Var that is entered in a For, and one that lost its Declarators
---   treat-formed, keeps-formed                        a chain; the theorem
+--   treat-formed, inner-kept, keeps-formed            a chain; a record's children; the theorem
 use Prim.Native.Nat.{ℕ}
 use native.Mathlib.Omega.{arith}
 use mathlib.Core.Path.{_≡_, refl, sym, subst}
-use mathlib.Core.Bool.{Bool, true, false, not, _&&_, _||_}
+use mathlib.Core.Bool.{Bool, true, false, not, _&&_}
 use mathlib.Core.List.{List, [], _∷_}
 use mathlib.Core.Logic.{⊎-elim}
 use lib.Dec.{eqb}
-use Rattle.std.proofs.shelf.Tests.{both-ways, cases-bool, and-parts, or-cases, or-parts, not-true, not-false, eqb-true}
+use Rattle.std.proofs.shelf.Tests.{both-ways, cases-bool, or-parts, not-true, not-false, eqb-false}
 use Rattle.std.proofs.shelf.Ways.{tells}
-use Rattle.rules.specs.Tree.{Head, Chain, _is_, isEnd, below, after, first-is, first-flagged, first-symbol, alone, append}
+use Rattle.rules.specs.Tree.{Head, Chain, _is_, isEnd, below, after, alone, append}
 use Rattle.rules.specs.Tree.Chain.{end, link}
-use Rattle.rules.specs.Kinds.{member, module-root, script-root, import-item, empty-statement, block, expression-statement, fn-declaration, class-declaration, var-declaration, for-statement, with-statement, export-default, delete-expression, declarator, specifier, object, call-expression, assignment, function-expression, plain-statement, expression, statement, item}
+use Rattle.rules.specs.Kinds.{member, import-item, empty-statement, expression-statement, fn-declaration, class-declaration, var-declaration, for-statement, with-statement, export-default, delete-expression, declarator, specifier, object, call-expression, assignment, expression, statement, item}
 use Rattle.rules.specs.Grammar.{Way, words-fit, assigned, children-of, step, root}
 use Rattle.rules.specs.Grammar.Part.{one}
 use Rattle.rules.specs.Held.{Formed}
-use Rattle.rules.specs.Removal.{By, Place, Left, Verdict, at-root, place-inside, entered, has-list, wraps-object, wrapped-object, returns-object, swept, verdict, done, treated, treat}
+use Rattle.rules.specs.Removal.{By, Place, Left, Verdict, at-root, place-inside, entered, has-list, wrapped-object, swept, verdict, done, treated, treat}
 use Rattle.rules.specs.Removal.Verdict.{stays, sweeps, empties, unlinks, restates, yields, unwraps}
 use Rattle.laws.specs.KeepsTree.{Keeps-formed}
-use Rattle.laws.proofs.KeepsMeans.{Means, means, Emptied, Unlinked}
-use Rattle.laws.proofs.KeepsMeans.Emptied.{fn, class, importing, var}
-use Rattle.laws.proofs.KeepsMeans.Unlinked.{declaring, specifying}
+use Rattle.laws.proofs.Formed.{first-kind, formed-one, Record-formed, First-formed, first-formed, below-formed}
+use Rattle.laws.proofs.Verdicts.{Means, means, Emptying, Unlinking, by-list, wraps}
+use Rattle.laws.proofs.Verdicts.Emptying.{fn, class, imports, var}
+use Rattle.laws.proofs.Verdicts.Unlinking.{declares, specifies}
 use Rattle.laws.proofs.KeepsWays.{formed-filled}
 use Rattle.laws.proofs.KeepsFair.{stand-ins}
-use Rattle.laws.proofs.KeepsTable.{Ready, Stands, declarators, inner-ways, ready-fair, ready-inside, swap-moving, swap-declaring, swap-var, drop-ready}
-use Rattle.laws.proofs.KeepsTable.Ready.{anywhere}
-use Rattle.laws.proofs.KeepsLists.{list-of, swept-formed, one-first, inner-formed, children-formed}
-use Rattle.laws.proofs.KeepsValues.{exported-filled, First-kept, first-kept, restated-formed}
-
--- a record as the table has it
-pub record Record-formed (h : Head) (children : Chain) : Type 0 where
-  pub fit : words-fit h ≡ true
-  pub formed : Formed (children-of h) children
-
--- the first record of a chain
-abbrev First-formed : Chain → Type 0
-First-formed end = Unit {0}
-First-formed (link h children rest) = Record-formed h children
-
-first-formed : (ways : List Way) (c : Chain) → Formed ways c → First-formed c
-first-formed ways end f = tt
-first-formed ways (link h children rest) f = record { fit = f .0; formed = f .2 }
-
-below-formed : (c : Chain) → First-formed c → First-formed (below c)
-below-formed end w = tt
-below-formed (link h children rest) w = first-formed (children-of h) children (w .formed)
+use Rattle.laws.proofs.KeepsTable.{Bears, Stands, declarators, inner-ways, bears-fair, bears-inside, swap-moving, swap-declaring, swap-var, drop-formed}
+use Rattle.laws.proofs.KeepsTable.Bears.{anywhere}
+use Rattle.laws.proofs.KeepsLists.{swept-formed, inner-formed, children-formed}
+use Rattle.laws.proofs.KeepsDeclarators.{exported-filled, First-kept, first-kept, restated-formed}
 
 -- such a record stands where its kind may
 put : (ways : List Way) (h : Head) (children onward : Chain) → Record-formed h children → Stands ways (h .kind) onward → Formed ways (link h children onward)
 put ways h children onward w s = (w .fit, s .0, w .formed, s .1)
-
--- what a Call wraps is an Object
-wraps-first : (c : Chain) → wraps-object c ≡ true → first-is object (wrapped-object c) ≡ true
-wraps-first c g =
-  let f = below c in
-  let r = below (below f) in
-  let a = and-parts (first-is function-expression c) _ g .1 in
-  let b = and-parts (eqb (first-symbol c) 0) _ a .1 in
-  let d = and-parts (isEnd (after c)) _ b .1 in
-  let e = and-parts (not (first-flagged f)) _ d .1 in
-  let i = and-parts (first-is block (below f)) (returns-object r) e .1 in
-  let j = and-parts (first-is plain-statement r) _ i .1 in
-  let k = and-parts (first-flagged r) _ j .1 in
-  let l = and-parts (isEnd (after r)) _ k .1 in
-  and-parts (first-is object (below r)) _ l .0
 
 -- an expression stands in for an Assignment
 expression-stands : (m : ℕ) → expression m ≡ true → member m (stand-ins assignment) ≡ true
 expression-stands m e = grind (arith, tells)
 
 -- a list's children are of one sort, and swept they are
-list-swept : (sort : ℕ → Bool) (h : Head) (c : Chain) → inner-ways h ≡ list-of sort → children-of h ≡ list-of sort → Formed (inner-ways h) c → Formed (children-of h) (swept c)
-list-swept sort h c a b f =
-  subst (λ (w : List Way). Formed w (swept c)) (sym b) (swept-formed sort c (subst (λ (w : List Way). Formed w c) a f))
-
 children-swept : (h : Head) (c : Chain) → has-list h ≡ true → Formed (inner-ways h) c → Formed (children-of h) (swept c)
 children-swept h c l f =
-  ⊎-elim (λ x. let k = eqb-true (h .kind) module-root x in list-swept item h c (rw k) (rw k) f)
-    (λ y. ⊎-elim (λ x. let k = eqb-true (h .kind) script-root x in list-swept statement h c (rw k) (rw k) f)
-      (λ x. let k = eqb-true (h .kind) block x in list-swept statement h c (rw k) (rw k) f)
-      (or-cases (h is script-root) (h is block) y))
-    (or-cases (h is module-root) (h is script-root || h is block) l)
+  by-list (λ (g : Head). Formed (inner-ways g) c → Formed (children-of g) (swept c)) h l (swept-formed item c) (swept-formed statement c) (swept-formed statement c) f
 
 module _ (ways : List Way) (onward : Chain) where
   -- the value of an Assignment takes its place
   yielded-formed : (sort : ℕ → Bool) (c : Chain) → Formed ((one sort ∷ one expression ∷ []) ∷ []) c →
     ((m : ℕ) → expression m ≡ true → Stands ways m onward) → Formed ways (append (alone (after c)) onward)
   yielded-formed sort end f s = absurd (both-ways false refl f)
-  yielded-formed sort (link t under end) f s = absurd (both-ways false refl (one-first sort (one expression ∷ []) t under end f .1))
+  yielded-formed sort (link t under end) f s = absurd (both-ways false refl (formed-one sort (one expression ∷ []) (link t under end) f .1))
   yielded-formed sort (link t under (link v inside rest)) f s =
-    let p = one-first sort (one expression ∷ []) t under (link v inside rest) f .1 in
-    put ways v inside onward (record { fit = p .0; formed = p .2 }) (s (v .kind) (one-first expression [] v inside rest p .0))
+    let p = formed-one sort (one expression ∷ []) (link t under (link v inside rest)) f .1 in
+    put ways v inside onward (record { fit = p .0; formed = p .2 }) (s (v .kind) (formed-one expression [] (link v inside rest) p .0))
 
   -- the Object of a wrapped Call takes its place
-  unwrapped-formed : (c : Chain) → first-is object c ≡ true → First-formed c → Stands ways object onward → Formed ways (append (alone c) onward)
-  unwrapped-formed end g w s = absurd (both-ways false refl g)
+  unwrapped-formed : (c : Chain) → first-kind c ≡ object → First-formed c → Stands ways object onward → Formed ways (append (alone c) onward)
+  unwrapped-formed end g w s = absurd (eqb-false 0 object refl g)
   unwrapped-formed (link o inside rest) g w s =
-    put ways o inside onward w (subst (λ (k : ℕ). Stands ways k onward) (sym (eqb-true (o .kind) object g)) s)
+    put ways o inside onward w (subst (λ (k : ℕ). Stands ways k onward) (sym g) s)
 
 -- what is left of one record: its children are left formed, and so is what follows it. Of a Var: it is a For's last child if it stands
 -- in one, it is not exported if its Declarators went, and the first that is left was not to go.
-module _ (by : By) (p : Place) (ways : List Way) (h : Head) (found : Chain) (ready : Ready p ways) (fit : words-fit h ≡ true)
+module _ (by : By) (p : Place) (ways : List Way) (h : Head) (found : Chain) (ready : Bears p ways) (fit : words-fit h ≡ true)
     (inner : Left) (within : Formed (inner-ways h) (inner .chain)) (onward : Chain) (stands : Stands ways (h .kind) onward)
     (last : h .kind ≡ var-declaration → p .parent ≡ for-statement → onward ≡ end)
     (inward : h .kind ≡ var-declaration → isEnd (inner .chain) ≡ true → p .in-export ≡ false)
@@ -118,21 +77,21 @@ module _ (by : By) (p : Place) (ways : List Way) (h : Head) (found : Chain) (rea
   stands-as : (k : ℕ) → h .kind ≡ k → Stands ways k onward
   stands-as k e = subst (λ (j : ℕ). Stands ways j onward) e stands
 
-  emptied-stands : Emptied p h found (inner .chain) → Stands ways empty-statement onward
+  emptied-stands : Emptying p h found (inner .chain) → Stands ways empty-statement onward
   emptied-stands (fn k x) = swap-declaring p ways onward fn-declaration empty-statement refl refl x ready (stands-as fn-declaration k)
   emptied-stands (class k x) = swap-declaring p ways onward class-declaration empty-statement refl refl x ready (stands-as class-declaration k)
-  emptied-stands (importing k x) = swap-moving p ways onward import-item empty-statement refl refl ready (stands-as import-item k)
+  emptied-stands (imports k x) = swap-moving p ways onward import-item empty-statement refl refl ready (stands-as import-item k)
   emptied-stands (var k x) = swap-var p ways onward empty-statement refl (inward k x) (last k) ready (stands-as var-declaration k)
 
-  unlinked-formed : Unlinked p h → Formed ways onward
-  unlinked-formed (declaring k x) = drop-ready p ways onward declarator refl ready (stands-as declarator k .1)
-  unlinked-formed (specifying k) = drop-ready p ways onward specifier refl ready (stands-as specifier k .1)
+  unlinked-formed : Unlinking p h → Formed ways onward
+  unlinked-formed (declares k x) = drop-formed p ways onward declarator refl ready (stands-as declarator k .1)
+  unlinked-formed (specifies k) = drop-formed p ways onward specifier refl ready (stands-as specifier k .1)
 
   done-formed : (v : Verdict) → Means by p h found (inner .chain) v → Formed ways (append (done v h inner .chain) onward)
   done-formed stays m = (fit, stands .0, children-formed h (inner .chain) (m .filled) within, stands .1)
   done-formed sweeps m = (fit, stands .0, children-swept h (inner .chain) m within, stands .1)
-  done-formed (empties names) m = let s = emptied-stands m in (refl, s .0, refl, s .1)
-  done-formed (unlinks name) m = unlinked-formed m
+  done-formed (empties names) m = let s = emptied-stands (m .which) in (refl, s .0, refl, s .1)
+  done-formed (unlinks name) m = unlinked-formed (m .which)
   done-formed restates m =
     let k = m .kind in
     let s = swap-var p ways onward expression-statement refl (m .inward) (last k) ready (stands-as var-declaration k) in
@@ -144,7 +103,7 @@ module _ (by : By) (p : Place) (ways : List Way) (h : Head) (found : Chain) (rea
   done-formed unwraps m =
     let c = inner .chain in
     let whole = below-formed (below (below (below c))) (below-formed (below (below c)) (below-formed (below c) (below-formed c (first-formed (inner-ways h) c within)))) in
-    unwrapped-formed ways onward (wrapped-object c) (wraps-first c (m .wraps)) whole
+    unwrapped-formed ways onward (wrapped-object c) (wraps c (m .wraps) .object) whole
       (swap-moving p ways onward call-expression object refl refl ready (stands-as call-expression (m .kind)))
 
 -- a Var in a For that the rules enter is its last child
@@ -174,13 +133,13 @@ var-inward by p h children f k e =
     (λ x. absurd (both-ways (isEnd (treat by q children .chain)) (exported-filled by q (export-inside p h k x) children g (formed-filled (children-of h) children (rw k) f)) e))
     (λ x. x) (cases-bool (p .in-export))
 
-pub treat-formed : (by : By) (p : Place) (ways : List Way) (c : Chain) → Ready p ways → Formed ways c → Formed ways (treat by p c .chain)
+treat-formed : (by : By) (p : Place) (ways : List Way) (c : Chain) → Bears p ways → Formed ways c → Formed ways (treat by p c .chain)
 treat-formed by p ways end ready f = f
 treat-formed by p ways (link h children rest) ready f =
   let q = place-inside p h in
   let g = inner-formed h children (f .2) in
-  go (treat-formed by q (inner-ways h) children (ready-inside p h) g)
-    (treat-formed by p (step (h .kind) ways) rest (anywhere (ready-fair p (h .kind) ways ready)) (f .3))
+  go (treat-formed by q (inner-ways h) children (bears-inside p h) g)
+    (treat-formed by p (step (h .kind) ways) rest (anywhere (bears-fair p (h .kind) ways ready)) (f .3))
     (entered p h children (isEnd rest)) refl
   where
     go : Formed (inner-ways h) (treat by (place-inside p h) children .chain) → Formed (step (h .kind) ways) (treat by p rest .chain) →
@@ -195,6 +154,10 @@ treat-formed by p ways (link h children rest) ready f =
         (λ k. first-kept by q children (rw k at (inner-formed h children (f .2))))
         (verdict by p h children (inner .chain)) (means by p h children (inner .chain))
     go w o false e = (f .0, f .1, f .2, o)
+
+-- what is left of a record's children, before the record itself is treated
+pub inner-kept : (by : By) (p : Place) (h : Head) (children : Chain) → Formed (children-of h) children → Formed (inner-ways h) (treat by (place-inside p h) children .chain)
+inner-kept by p h children f = treat-formed by (place-inside p h) (inner-ways h) children (bears-inside p h) (inner-formed h children f)
 
 pub keeps-formed : Keeps-formed
 keeps-formed by c f = treat-formed by at-root root c (anywhere refl) f

@@ -1,9 +1,6 @@
--- Chains of any number of records of one sort: what their records are, how one is made, and that sweeping keeps it so.
--- A Var's children are such a chain that has a record.
+-- Chains of any number of records of one sort: sweeping keeps them so. A Var's children are such a chain that has a record.
 --
---   list-of, listed, list-link      any number of a sort; the first record of such a chain, and the others; one more record
 --   swept-formed                    sweeping
---   one-first, one-link             the same of one record of a sort before a way
 --   inner-formed, children-formed   a record's children as they are treated, and as the table has them
 use Prim.Native.Nat.{ℕ}
 use mathlib.Core.Path.{_≡_, refl, sym, subst}
@@ -14,35 +11,12 @@ use Rattle.std.proofs.shelf.Tests.{cond-both, cond-false, both-ways, cases-bool
 use Rattle.rules.specs.Tree.{Head, Chain, _is_, isEnd}
 use Rattle.rules.specs.Tree.Chain.{end, link}
 use Rattle.rules.specs.Kinds.{empty-statement, block, var-declaration, declarator, only}
-use Rattle.rules.specs.Grammar.{Way, words-fit, children-of, step, misplaced}
+use Rattle.rules.specs.Grammar.{Way, children-of}
 use Rattle.rules.specs.Grammar.Part.{one, many}
 use Rattle.rules.specs.Held.{Formed}
 use Rattle.rules.specs.Removal.{swept, var-emptied}
+use Rattle.laws.proofs.Formed.{list-of, listed, list-link, formed-one, one-link}
 use Rattle.laws.proofs.KeepsTable.{declarators, inner-ways}
-
--- any number of a sort
-abbrev pub list-of : (ℕ → Bool) → List Way
-list-of sort = (many sort ∷ []) ∷ []
-
-list-step : (sort : ℕ → Bool) (k : ℕ) → sort k ≡ true → step k (list-of sort) ≡ list-of sort
-list-step sort k e = rw e
-
-list-taken : (sort : ℕ → Bool) (k : ℕ) → misplaced (step k (list-of sort)) ≡ false → sort k ≡ true
-list-taken sort k e =
-  ⊎-elim (λ x. x) (λ x. absurd (both-ways true (rw x at e) refl)) (cases-bool (sort k))
-
--- the first record is of the sort, and the others are such a chain
-pub listed : (sort : ℕ → Bool) (h : Head) (children rest : Chain) → Formed (list-of sort) (link h children rest) → (sort (h .kind) ≡ true) × Formed (list-of sort) rest
-listed sort h children rest f =
-  let e = list-taken sort (h .kind) (f .1) in
-  (e, subst (λ (w : List Way). Formed w rest) (list-step sort (h .kind) e) (f .3))
-
--- one more record of the sort
-pub list-link : (sort : ℕ → Bool) (h : Head) (children rest : Chain) → sort (h .kind) ≡ true → words-fit h ≡ true → Formed (children-of h) children →
-  Formed (list-of sort) rest → Formed (list-of sort) (link h children rest)
-list-link sort h children rest e w f r =
-  let same = sym (list-step sort (h .kind) e) in
-  (w, subst (λ (a : List Way). misplaced a ≡ false) same refl, f, subst (λ (a : List Way). Formed a rest) same r)
 
 pub swept-formed : (sort : ℕ → Bool) (c : Chain) → Formed (list-of sort) c → Formed (list-of sort) (swept c)
 swept-formed sort end f = f
@@ -52,27 +26,6 @@ swept-formed sort (link h children rest) f =
   cond-both (h is empty-statement || (h is block && isEnd children)) (swept rest) (link h children (swept rest)) (λ (d : Chain). Formed (list-of sort) d)
     (λ _. s) (λ _. list-link sort h children (swept rest) (l .0) (f .0) (f .2) s)
 
-one-taken : (sort : ℕ → Bool) (way : Way) (k : ℕ) → misplaced (step k ((one sort ∷ way) ∷ [])) ≡ false → sort k ≡ true
-one-taken sort way k e =
-  ⊎-elim (λ x. x) (λ x. absurd (both-ways true (rw x at e) refl)) (cases-bool (sort k))
-
-one-step : (sort : ℕ → Bool) (way : Way) (k : ℕ) → sort k ≡ true → step k ((one sort ∷ way) ∷ []) ≡ way ∷ []
-one-step sort way k e = rw e
-
--- the first record is of the sort, and the others go the way
-pub one-first : (sort : ℕ → Bool) (way : Way) (h : Head) (children rest : Chain) → Formed ((one sort ∷ way) ∷ []) (link h children rest) →
-  (sort (h .kind) ≡ true) × Formed (way ∷ []) rest
-one-first sort way h children rest f =
-  let e = one-taken sort way (h .kind) (f .1) in
-  (e, subst (λ (w : List Way). Formed w rest) (one-step sort way (h .kind) e) (f .3))
-
--- a record of the sort, then the way
-pub one-link : (sort : ℕ → Bool) (way : Way) (h : Head) (children rest : Chain) → sort (h .kind) ≡ true → words-fit h ≡ true → Formed (children-of h) children →
-  Formed (way ∷ []) rest → Formed ((one sort ∷ way) ∷ []) (link h children rest)
-one-link sort way h children rest e w f r =
-  let same = sym (one-step sort way (h .kind) e) in
-  (w, subst (λ (a : List Way). misplaced a ≡ false) same refl, f, subst (λ (a : List Way). Formed a rest) same r)
-
 -- a Var's children as the table has them
 abbrev var-ways : List Way
 var-ways = (one (only declarator) ∷ many (only declarator) ∷ []) ∷ []
@@ -80,7 +33,7 @@ var-ways = (one (only declarator) ∷ many (only declarator) ∷ []) ∷ []
 var-list : (c : Chain) → Formed var-ways c → Formed declarators c
 var-list end f = refl
 var-list (link h children rest) f =
-  let p = one-first (only declarator) (many (only declarator) ∷ []) h children rest f in
+  let p = formed-one (only declarator) (many (only declarator) ∷ []) (link h children rest) f in
   list-link (only declarator) h children rest (p .0) (f .0) (f .2) (p .1)
 
 list-var : (c : Chain) → isEnd c ≡ false → Formed declarators c → Formed var-ways c

@@ -2,7 +2,7 @@
 -- may stand for one of the first, and what follows is still formed.
 --
 --   Within                                    some of the ways, in their order
---   within-same, within-none, within-front, within-append, within-step
+--   within-same .. within-step                ways added, and the ways on
 --   within-ends, within-placed, formed-within      more ways form more chains
 --   formed-filled                             a chain that may not end where it begins has a record
 use Prim.Native.Nat.{ℕ}
@@ -22,7 +22,7 @@ pub data Within : List Way → List Way → Type 0 where
   both : {way : Way} {a b : List Way} → Within a b → Within (way ∷ a) (way ∷ b)
   more : {way : Way} {a b : List Way} → Within a b → Within a (way ∷ b)
 
-pub within-same : (a : List Way) → Within a a
+within-same : (a : List Way) → Within a a
 within-same [] = none
 within-same (way ∷ a) = both (within-same a)
 
@@ -30,7 +30,7 @@ pub within-none : (a : List Way) → Within [] a
 within-none [] = none
 within-none (way ∷ a) = more (within-none a)
 
-pub within-front : (c : List Way) {a b : List Way} → Within a b → Within a (c ++ b)
+within-front : (c : List Way) {a b : List Way} → Within a b → Within a (c ++ b)
 within-front [] w = w
 within-front (way ∷ c) w = more (within-front c w)
 
@@ -39,12 +39,12 @@ within-append none v = v
 within-append (both w) v = both (within-append w v)
 within-append (more w) v = more (within-append w v)
 
-pub within-step : (k : ℕ) {a b : List Way} → Within a b → Within (step k a) (step k b)
+within-step : (k : ℕ) {a b : List Way} → Within a b → Within (step k a) (step k b)
 within-step k none = none
 within-step k (both {way} w) = within-append (within-same (go-on k way)) (within-step k w)
 within-step k (more {way} w) = within-front (go-on k way) (within-step k w)
 
-pub within-ends : {a b : List Way} → Within a b → may-end a ≡ true → may-end b ≡ true
+within-ends : {a b : List Way} → Within a b → may-end a ≡ true → may-end b ≡ true
 within-ends none e = e
 within-ends (both {way} {a} {b} w) e =
   ⊎-elim (λ x. or-left (ends way) (may-end b) x) (λ x. or-right (ends way) (may-end b) (within-ends w x)) (or-cases (ends way) (may-end a) e)

@@ -8,8 +8,8 @@
 use Prim.Native.Nat.{ℕ, _+_}
 use native.Mathlib.Omega.{arith}
 use mathlib.Core.Path.{_≡_, refl, sym, ap, ap₂, _∙_, subst₂}
-use mathlib.Core.List.{List, [], _∷_, _++_, append-nil, append-assoc}
 use mathlib.Core.Bool.{Bool, true, false, _||_, or-assoc}
+use mathlib.Core.List.{List, [], _∷_, _++_, append-nil, append-assoc}
 use Rattle.rules.specs.Tree.{Head, Chain, Name, if_then_else_, reached, unnumbered}
 use Rattle.rules.specs.Tree.Chain.{end, link}
 use Rattle.rules.specs.Kinds.{module-root, script-root}
@@ -18,9 +18,8 @@ use Rattle.rules.specs.Counting.{Event, Found, outermost, events-of}
 use Rattle.rules.specs.Tables.{Counts, no-rows}
 use Rattle.rules.specs.Law.{Shuffled}
 use Rattle.rules.specs.Law.Shuffled.{none, past, swap, again}
-use Rattle.laws.proofs.OrderNames.{or-swap}
-use Rattle.laws.proofs.Shuffles.{fold, fold-++, fold-swap}
-use Rattle.laws.proofs.OrderTables.{filled}
+use Rattle.laws.proofs.Basics.{or-swap, fold, fold-++, fold-swap}
+use Rattle.laws.proofs.TablesFilled.{filled}
 use Rattle.laws.proofs.AlikeTables.{Alike, Exchanged, alike}
 use Rattle.laws.proofs.UnnumberedCount.{filled-unnumbered, names-unnumbered, declaring-unnumbered, count-unnumbered}
 

@@ -3,15 +3,15 @@
 --
 --   declared-names, declared-sizes         rows from the same names
 --   Symbols, symbols-declared              rows whose first word is not 0
---   unnamed, unnamed-unmade                a record of a named kind without a symbol, which removal does not make
+--   unnamed                                a record of a named kind without a symbol
 --   symbols-of-tree                        the rows of a tree without such a record
+use Prim.Native.Nat.{ℕ}
 use mathlib.Core.Path.{_≡_, refl, sym, ap, _∙_, subst}
-use mathlib.Core.List.{List, [], _∷_, _++_}
 use mathlib.Core.Bool.{Bool, true, false, _&&_, _||_, not, or-assoc}
+use mathlib.Core.List.{List, [], _∷_, _++_}
 use mathlib.Core.Logic.{inl, inr}
 use lib.Dec.{eqb}
 use lib.ListN.{length}
-use Prim.Native.Nat.{ℕ}
 use Rattle.std.proofs.shelf.Tests.{true≢false, cases-bool, or-cases, and-parts, not-true, eqb-true}
 use Rattle.rules.specs.Tree.{Head, Chain, Name, if_then_else_, _is_, nameOf}
 use Rattle.rules.specs.Tree.Chain.{end, link}
@@ -20,11 +20,11 @@ use Rattle.rules.specs.Grammar.{named}
 use Rattle.rules.specs.Names.{same, among, namesOf, binds, keep, Under, under, under-nothing, declares, declaring, declared}
 use Rattle.rules.specs.Tables.{some-row}
 use Rattle.rules.proofs.SameNames.{same-eq, same-refl}
-use Rattle.laws.proofs.OrderNames.{or-swap}
-use Rattle.laws.proofs.OrderRows.{with-row, some-with-row}
-use Rattle.laws.proofs.OrderSizes.{Single, single-with-row, equal-sizes}
-use Rattle.laws.proofs.OrderRoom.{all-declared}
-use Rattle.laws.proofs.OrderHeads.{Nowhere, Unmade}
+use Rattle.laws.proofs.Basics.{or-swap, each-member}
+use Rattle.laws.proofs.TablesRows.{with-row, some-with-row}
+use Rattle.laws.proofs.TablesSizes.{Single, single-with-row, equal-sizes}
+use Rattle.laws.proofs.TablesRoom.{all-declared}
+use Rattle.laws.proofs.OrderNowhere.{Nowhere}
 
 -- THE SAME NAMES
 
@@ -75,25 +75,16 @@ symbols-declared (h ∷ hs) rows p q = symbols-declared hs (with-row (same (name
 abbrev pub unnamed : Head → Bool
 unnamed h = named (h .kind) && eqb (h .symbol) 0
 
-pub unnamed-unmade : Unmade unnamed
-unnamed-unmade = record { empty = λ h. refl; statement = λ h. refl; plain = λ h. refl }
-
 has-symbol : (h : Head) → unnamed h ≡ false → named (h .kind) ≡ true → eqb (h .symbol) 0 ≡ false
 has-symbol h p q = elim (cases-bool (eqb (h .symbol) 0)) [ inl e ↦ absurd (true≢false (sym (rw (q, e)) ∙ p)) | inr e ↦ e ]
 
--- a kind of a shorter list is one of the named kinds
-named-at : (k j : ℕ) → named j ≡ true → eqb k j ≡ true → named k ≡ true
-named-at k j p q = subst (λ (i : ℕ). named i ≡ true) (sym (eqb-true k j q)) p
-
 declarations-named : (k : ℕ) → member k (specifier ∷ fn-declaration ∷ class-declaration ∷ []) ≡ true → named k ≡ true
-declarations-named k h = elim (or-cases (eqb k specifier) (member k (fn-declaration ∷ class-declaration ∷ [])) h) [
-    inl e ↦ named-at k specifier refl e
-  | inr e ↦ elim (or-cases (eqb k fn-declaration) (member k (class-declaration ∷ [])) e) [
-      inl e ↦ named-at k fn-declaration refl e
-    | inr e ↦ elim (or-cases (eqb k class-declaration) false e) [ inl e ↦ named-at k class-declaration refl e | inr e ↦ absurd (true≢false (sym e)) ] ] ]
+declarations-named k = each-member (λ (j : ℕ). named j ≡ true) k (specifier ∷ fn-declaration ∷ class-declaration ∷ []) (refl, (refl, (refl, tt)))
 
 binders-named : (h : Head) → binds h ≡ true → named (h .kind) ≡ true
-binders-named h e = elim (or-cases (h is name-pattern) (h is property-name) e) [ inl q ↦ named-at (h .kind) name-pattern refl q | inr q ↦ named-at (h .kind) property-name refl q ]
+binders-named h e = elim (or-cases (h is name-pattern) (h is property-name) e) [
+    inl q ↦ rw (eqb-true (h .kind) name-pattern q)
+  | inr q ↦ rw (eqb-true (h .kind) property-name q) ]
 
 declares-symbol : (u : Under) (h : Head) → unnamed h ≡ false → declares u h ≡ true → eqb (h .symbol) 0 ≡ false
 declares-symbol u h p e = elim (or-cases (member (h .kind) (specifier ∷ fn-declaration ∷ class-declaration ∷ []) || (u .binding && binds h)) (u .default && definition-expression (h .kind) && not (eqb (h .symbol) 0)) e) [

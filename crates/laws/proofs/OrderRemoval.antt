@@ -1,6 +1,7 @@
 -- Removal of the items of a root: each is treated by itself, so what is left of them stands in the order in which they stood,
 -- and something is removed from one order exactly if it is from the other.
 --
+--   shuffled-after, exchange          chains with the same front; two parts in front of a third
 --   top, item-left, remains           the items' place; what is left of one; what is left of all, swept
 --   remains-link                      item by item
 --   remains-shuffled, changed-shuffled      in another order
@@ -15,10 +16,30 @@ use Rattle.rules.specs.Kinds.{module-root, script-root, empty-statement, block,
 use Rattle.rules.specs.Removal.{By, Place, Left, at-root, place-inside, asm, entered, swept, unchanged, both, treated, treat}
 use Rattle.rules.specs.Law.{Shuffled}
 use Rattle.rules.specs.Law.Shuffled.{none, past, swap, again}
-use Rattle.laws.proofs.OrderNames.{cond-ap, or-swap}
-use Rattle.laws.proofs.Shuffles.{shuffled-after, exchange}
+use Rattle.laws.proofs.Basics.{cond-ap, or-swap}
+use Rattle.laws.proofs.Verdicts.{entered-anywhere}
 use Rattle.laws.proofs.UnnumberedRemoval.{swept-unnumbered, treat-unnumbered}
 use Rattle.laws.proofs.OrderCount.{root-of}
+
+-- SHUFFLED CHAINS
+
+unmoved : (c : Chain) → Shuffled c c
+unmoved end = none
+unmoved (link h cs rest) = past (unmoved rest)
+
+shuffled-after : (x : Chain) {a b : Chain} → Shuffled a b → Shuffled (append x a) (append x b)
+shuffled-after end s = s
+shuffled-after (link h cs x) s = past (shuffled-after x s)
+
+one-past : (h : Head) (cs y r : Chain) → Shuffled (link h cs (append y r)) (append y (link h cs r))
+one-past h cs end r = unmoved (link h cs r)
+one-past h cs (link g ds y) r = again swap (past (one-past h cs y r))
+
+exchange : (x y r : Chain) → Shuffled (append x (append y r)) (append y (append x r))
+exchange end y r = unmoved (append y r)
+exchange (link h cs x) y r = again (past (exchange x y r)) (one-past h cs y (append x r))
+
+-- ITEMS
 
 -- the place of a root's items
 abbrev pub top : (module-tree : Bool) → Place
@@ -44,12 +65,8 @@ swept-append (link h cs rest) d =
   ∙ sym (cond-ap (λ (z : Chain). append z (swept d)) (h is empty-statement || (h is block && isEnd cs)) (swept rest) (link h cs (swept rest)))
 
 module _ (by : By) (p : Place) (quiet : eqb (p .parent) for-statement ≡ false) where
-  -- whether an item comes last does not matter
-  entered-alike : (h : Head) (cs : Chain) (last : Bool) → entered p h cs last ≡ entered p h cs true
-  entered-alike h cs last = rw quiet
-
   treat-link : (h : Head) (cs rest : Chain) → treat by p (link h cs rest) ≡ both (item-left by p h cs) (treat by p rest)
-  treat-link h cs rest = ap (λ (b : Bool). both (treated b by p h cs (treat by (place-inside p h) cs)) (treat by p rest)) (entered-alike h cs (isEnd rest))
+  treat-link h cs rest = ap (λ (b : Bool). both (treated b by p h cs (treat by (place-inside p h) cs)) (treat by p rest)) (entered-anywhere p h cs (isEnd rest) true quiet)
 
   pub remains-link : (h : Head) (cs rest : Chain) → remains by p (link h cs rest) ≡ append (swept (item-left by p h cs .chain)) (remains by p rest)
   remains-link h cs rest = ap (λ (l : Left). swept (l .chain)) (treat-link h cs rest) ∙ swept-append (item-left by p h cs .chain) (treat by p rest .chain)

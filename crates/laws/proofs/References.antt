@@ -1,5 +1,9 @@
 -- The references part of the law about runs. A reference that is left at the end was counted in the tree that the pass found, since
 -- references never grow; its name being free, it has holders, all of the name's closed ring, and it stands inside the first of them.
+--
+--   later-refers, made-references      one pass, and the tree left by it and by removals after it
+--   Follows, calls-follow              a list of calls
+--   references-law                     the theorem
 use Prim.Native.Nat.{ℕ, zero, suc}
 use mathlib.Core.Path.{_≡_, refl, sym, subst}
 use mathlib.Core.Bool.{Bool, true, false}
@@ -7,42 +11,45 @@ use mathlib.Core.List.{List, [], _∷_, _++_}
 use mathlib.Core.Logic.{_⊎_, inl, ⊎-elim}
 use Rattle.std.proofs.shelf.Tests.{both-ways}
 use Rattle.rules.specs.Tree.{Chain, Name}
+use Rattle.rules.specs.Grammar.{root}
 use Rattle.rules.specs.Refusals.{Outcome}
 use Rattle.rules.specs.Refusals.Outcome.{fine}
+use Rattle.rules.specs.Held.{Formed}
 use Rattle.rules.specs.Counting.{Event, unheld, outermost, events-of}
-use Rattle.rules.specs.Removal.{Config, at-root, taken, gave}
+use Rattle.rules.specs.Tables.{Counts, look}
+use Rattle.rules.specs.Rings.{discount}
+use Rattle.rules.specs.Removal.{Config, at-root, unused, never-read, taken, gave}
 use Rattle.rules.specs.Calls.{State, Pass, After, Call, Answer, cleared, pass-by, remove, passed, pass-once, passes-from, reached-by, call-fitting, call, calls, final, passes-made}
 use Rattle.rules.specs.Calls.Call.{pass, reset, repeat}
 use Rattle.rules.specs.Law.{In, Reference, Inside-ring, begun-on, tree-of}
-use Rattle.laws.specs.ReferencesLaw.{References-law}
-use Rattle.laws.proofs.Listed.{in-append}
-use Rattle.laws.proofs.SoundTrees.{Sound}
-use Rattle.laws.proofs.SoundKept.{treat-sound}
-use Rattle.laws.proofs.Refers.{Refers}
-use Rattle.laws.proofs.RefersKept.{treat-refers}
-use Rattle.laws.proofs.Tallied.{count-refers, refers-count}
-use Rattle.laws.proofs.Insides.{holder-inside}
-use Rattle.laws.proofs.Freed.{Within, unused-within, unread-within, taken-unused, gave-unread}
+use Rattle.laws.specs.Parts.{References-law}
+use Rattle.laws.proofs.Basics.{in-append}
+use Rattle.laws.proofs.KeepsFormed.{keeps-formed}
 use Rattle.laws.proofs.Runs.{Later, later-then, Ready, begun-ready, Full, Result, pass-result, result-ready, turn-cases, call-cases, call-ready}
 use Rattle.laws.proofs.Runs.Later.{here, onward}
 use Rattle.laws.proofs.Runs.Result.{not-made, one-made}
+use Rattle.laws.proofs.Refers.{Refers}
+use Rattle.laws.proofs.RefersKept.{treat-refers}
+use Rattle.laws.proofs.RefersCounted.{count-refers, refers-count}
+use Rattle.laws.proofs.RefersInside.{holder-inside}
+use Rattle.laws.proofs.Freed.{Held-in-ring, unused-within, unread-within, taken-unused, gave-unread}
 
 -- ONE PASS
 
-later-refers : (e : Event) {c d : Chain} → Later c d → Sound 0 c → Refers outermost d e → Refers outermost c e
+later-refers : (e : Event) {c d : Chain} → Later c d → Formed root c → Refers outermost d e → Refers outermost c e
 later-refers e here s x = x
-later-refers e (onward by c l) s x = treat-refers e by at-root 0 c s outermost (later-refers e l (treat-sound by at-root 0 c s) x)
+later-refers e (onward by c l) s x = treat-refers e by at-root root c s outermost (later-refers e l (keeps-formed by c s) x)
 
 -- a completed pass, and a tree left by it and by removals after it
 pub record Made (k : Config) (p : Pass) (left : Chain) : Type 0 where
-  pub sound : Sound 0 (p .found)
+  pub formed : Formed root (p .found)
   pub full : Full p
   pub later : Later (remove k p .chain) left
 
 -- a reference with holders of a closed ring stands inside the first
-in-ring : (p : Pass) (left : Chain) (e : Event) → Reference e → In e (events-of left) → (hs : List Name) → e .holders ≡ hs → Within (p .filled .counts) e → Inside-ring p left e
-in-ring p left e r x [] q w = absurd (both-ways true (subst (λ (hs : List Name). unheld hs ≡ false) q (w .held)) refl)
-in-ring p left e r x (m ∷ hs) q w =
+ring-inside : (p : Pass) (left : Chain) (e : Event) → Reference e → In e (events-of left) → (hs : List Name) → e .holders ≡ hs → Held-in-ring (p .filled .counts) e → Inside-ring p left e
+ring-inside p left e r x [] q w = absurd (both-ways true (subst (λ (hs : List Name). unheld hs ≡ false) q (w .held)) refl)
+ring-inside p left e r x (m ∷ hs) q w =
   let first : In m (e .holders) = subst (λ (l : List Name). In m l) (sym q) (inl refl) in
   record { holder = m; inside = holder-inside e left r x m first; ring = w .ring; shares = w .shares m first }
 
@@ -51,11 +58,11 @@ made-references : (k : Config) (p : Pass) (left : Chain) → Made k p left → (
   → Inside-ring p left e
 made-references k p left m e x r y =
   let by = pass-by k (p .filled) in
-  let c = p .filled .counts in
-  let z = refers-count e (p .found) outermost (later-refers e (onward by (p .found) (m .later)) (m .sound) (count-refers e r left outermost x)) in
-  in-ring p left e r x (e .holders) refl (⊎-elim
-    (λ t. unused-within (m .full .space) (events-of (p .found)) c (m .full .is-full) e r z (taken-unused by (e .name) (p .found) at-root t))
-    (λ t. unread-within (m .full .space) (events-of (p .found)) c (m .full .is-full) e r z k (t .1) (gave-unread by (e .name) (p .found) at-root (t .0))) y)
+  let es = events-of (p .found) in
+  let z = refers-count e (p .found) outermost (later-refers e (onward by (p .found) (m .later)) (m .formed) (count-refers e r left outermost x)) in
+  ring-inside p left e r x (e .holders) refl (subst (λ (c : Counts). Held-in-ring c e) (sym (m .full)) (⊎-elim
+    (λ t. unused-within es e r z (subst (λ (c : Counts). unused (look (e .name) (discount c)) ≡ true) (m .full) (taken-unused by (e .name) (p .found) at-root t)))
+    (λ t. unread-within es e r z k (t .1) (subst (λ (c : Counts). never-read k (look (e .name) (discount c)) ≡ true) (m .full) (gave-unread by (e .name) (p .found) at-root (t .0)))) y))
 
 -- LISTS OF CALLS
 
@@ -74,11 +81,11 @@ result-follows k s r one (one-made p e f) =
   record {
     on = subst (λ (o : Outcome Chain). Later (tree-of o) (remove k p .chain)) (sym e) (onward (pass-by k (p .filled)) (p .found) here);
     after = λ m x. ⊎-elim
-      (λ y. subst (λ (j : Pass). Made k j (remove k p .chain)) (sym y) (record { sound = q .0; full = f; later = here }))
+      (λ y. subst (λ (j : Pass). Made k j (remove k p .chain)) (sym y) (record { formed = q; full = f; later = here }))
       (λ y. absurd y) x }
 
 made-then : (k : Config) (p : Pass) (c d : Chain) → Made k p c → Later c d → Made k p d
-made-then k p c d m l = record { sound = m .sound; full = m .full; later = later-then (m .later) l }
+made-then k p c d m l = record { formed = m .formed; full = m .full; later = later-then (m .later) l }
 
 follows-then : (k : Config) (s t u : State) (ps qs : List Pass) → Follows k s ps t → Follows k t qs u → Follows k s (ps ++ qs) u
 follows-then k s t u ps qs f g = record {

@@ -9,16 +9,18 @@ use mathlib.Core.Path.{_≡_, refl, sym, subst}
 use mathlib.Core.Bool.{true, false}
 use mathlib.Core.List.{List}
 use mathlib.Core.Logic.{_⊎_, inl, inr, ⊎-elim}
-use Rattle.std.proofs.shelf.Tests.{cond-both, both-ways}
+use Rattle.std.proofs.shelf.Tests.{cond-both, both-ways, eqb-true}
 use Rattle.rules.specs.Tree.{Head, Chain, _is_, isEnd, after, alone, append}
 use Rattle.rules.specs.Tree.Chain.{end, link}
-use Rattle.rules.specs.Kinds.{expression, export-declaration, var-declaration, declarator, plain-expression, name-pattern, compound-pattern, default-pattern}
+use Rattle.rules.specs.Kinds.{only, expression, export-declaration, var-declaration, declarator, plain-expression, name-pattern, compound-pattern, default-pattern}
+use Rattle.rules.specs.Held.{Formed}
 use Rattle.rules.specs.Counting.{Event, Around, Role, reading, own, inside}
 use Rattle.rules.specs.Counting.Role.{declared-here, written}
 use Rattle.rules.specs.Removal.{swept, become, values, joined}
 use Rattle.rules.specs.Law.{In}
-use Rattle.laws.proofs.SoundTrees.{first-kind, Sound}
-use Rattle.laws.proofs.Exported.{Exports, other-kind}
+use Rattle.laws.proofs.Formed.{first-kind, listed, declarator-value}
+use Rattle.laws.proofs.KeepsTable.{declarators}
+use Rattle.laws.proofs.RefersExported.{Exports, other-kind}
 
 -- the record h refers: for a name that it exports, or by itself
 abbrev pub Here : Around → Head → Chain → Event → Type 0
@@ -39,7 +41,7 @@ own-expression a h r s x = rw (other-kind (h .kind) name-pattern x refl)
 inside-expression : (a : Around) (h : Head) (r s : Role) → expression (h .kind) ≡ true → inside (with-role a r) h ≡ inside (with-role a s) h
 inside-expression a h r s x = rw (other-kind (h .kind) compound-pattern x refl, other-kind (h .kind) default-pattern x refl)
 
-pub inside-declarator : (a : Around) (h : Head) → h .kind ≡ declarator → inside a h ≡ with-role a declared-here
+inside-declarator : (a : Around) (h : Head) → h .kind ≡ declarator → inside a h ≡ with-role a declared-here
 inside-declarator a h k = rw k
 
 pub inside-var : (a : Around) (h : Head) → h .kind ≡ var-declaration → inside a h ≡ with-role a written
@@ -71,17 +73,18 @@ module _ (e : Event) where
         (λ w. inr (subst (λ (es : List Event). In e es) (own-expression a h r s k) w)) z))
       (λ z. inr (⊎-elim (λ w. inl (subst (λ (o : Around). Refers o cs e) (inside-expression a h r s k) w)) (λ w. absurd w) z)) y
 
-  refers-values : (a : Around) (c : Chain) → Sound var-declaration c → Refers (with-role a written) (values c) e → Refers (with-role a written) c e
+  refers-values : (a : Around) (c : Chain) → Formed declarators c → Refers (with-role a written) (values c) e → Refers (with-role a written) c e
   refers-values a end s x = x
   refers-values a (link d parts rest) s x =
-    let k = s .0 .declarators refl in
+    let l = listed (only declarator) d parts rest s in
+    let k = eqb-true (d .kind) declarator (l .0) in
     ⊎-elim
       (λ y. inr (inl (subst (λ (o : Around). Refers o parts e) (sym (inside-declarator (with-role a written) d k))
-        (refers-after (with-role a declared-here) parts (refers-moved a written declared-here (after parts) (s .0 .binds k .value) y)))))
-      (λ y. inr (inr (refers-values a rest (s .2) y)))
+        (refers-after (with-role a declared-here) parts (refers-moved a written declared-here (after parts) (declarator-value d parts k (s .2)) y)))))
+      (λ y. inr (inr (refers-values a rest (l .1) y)))
       (refers-append (with-role a written) (alone (after parts)) (values rest) x)
 
-  pub refers-joined : (a : Around) (c : Chain) → Sound var-declaration c → Refers (with-role a written) (joined c) e → Refers (with-role a written) c e
+  pub refers-joined : (a : Around) (c : Chain) → Formed declarators c → Refers (with-role a written) (joined c) e → Refers (with-role a written) c e
   refers-joined a end s = λ x. x
   refers-joined a (link d parts rest) s =
     let c = link d parts rest in

@@ -13,8 +13,10 @@ use lib.ListN.{length}
 use Rattle.std.proofs.shelf.Tests.{both-ways, or-cases, or-parts}
 use Rattle.rules.specs.Tree.{Chain, Name, reached}
 use Rattle.rules.specs.Tree.Chain.{end, link}
+use Rattle.rules.specs.Grammar.{root}
 use Rattle.rules.specs.Refusals.{Outcome}
 use Rattle.rules.specs.Refusals.Outcome.{fine, refused}
+use Rattle.rules.specs.Held.{Formed}
 use Rattle.rules.specs.Counting.{events-of}
 use Rattle.rules.specs.Removal.{Config, at-root}
 use Rattle.rules.specs.Calls.{State, Pass, After, Call, Answer, cleared, pass-by, remove, passed, pass-once, passes-from, reached-by, repeat-ended, call-fitting, unfit-answer}
@@ -22,14 +24,14 @@ use Rattle.rules.specs.Calls.Call.{pass, reset, repeat}
 use Rattle.rules.specs.Calls.Answer.{repeat-answer}
 use Rattle.rules.specs.Calls.Repeated.{repeated, stopped}
 use Rattle.rules.specs.Law.{begun-on, tree-of, Removable, Counted, Repeat-kept}
-use Rattle.laws.specs.RepeatsLaw.{Repeats-law, Bound-never-ends}
-use Rattle.laws.proofs.Fills.{refused-fine}
-use Rattle.laws.proofs.Numbered.{Numbered}
-use Rattle.laws.proofs.SoundChecked.{Rooted}
-use Rattle.laws.proofs.Shrinks.{treat-shrinks}
-use Rattle.laws.proofs.Removables.{pass-used}
+use Rattle.laws.specs.Parts.{Repeats-law}
+use Rattle.laws.specs.RepeatsLaw.{Bound-never-ends}
+use Rattle.laws.proofs.Basics.{refused-fine}
+use Rattle.laws.proofs.KeepsReached.{lost-reached}
+use Rattle.laws.proofs.RunsNumbered.{Numbered}
 use Rattle.laws.proofs.Runs.{Ready, begun-ready, Full, pass-result, result-ready, turn-cases, call-cases, called-one}
 use Rattle.laws.proofs.Runs.Result.{one-made}
+use Rattle.laws.proofs.RepeatsUsed.{pass-used}
 
 -- no removable function is left unused
 abbrev Used : Config → Chain → Type 0
@@ -41,9 +43,10 @@ record Run (k : Config) (s : State) (turns : ℕ) (a : After (Outcome Bool)) : T
   bounded : (b : Bool) → a .answer ≡ fine b → length (a .made) ≤ reached-by (s .tree)
   used : (b : Bool) → a .answer ≡ fine b → Used k (tree-of (a .state .tree))
 
-rooted-reached : (c : Chain) → Rooted c → 1 ≤ reached c
-rooted-reached end g = absurd g
-rooted-reached (link h cs rest) g = omega arith
+-- a tree has its root
+formed-reached : (c : Chain) → Formed root c → 1 ≤ reached c
+formed-reached end f = absurd (both-ways false refl f)
+formed-reached (link h cs rest) f = omega arith
 
 module _ (k : Config) (s : State) (fresh : s .changed ≡ false) (r : Ready (s .tree)) (p : Pass) (e : s .tree ≡ fine (p .found)) (f : Full p) where
   ready-found : Ready (fine (p .found))
@@ -54,7 +57,7 @@ module _ (k : Config) (s : State) (fresh : s .changed ≡ false) (r : Ready (s .
 
   -- a pass that changed something has lost a record
   changed-lost : passed k s p .changed ≡ true → reached (remove k p .chain) < reached (p .found)
-  changed-lost c = treat-shrinks (pass-by k (p .filled)) at-root 0 (p .found) (ready-found .0) .lost
+  changed-lost c = lost-reached (pass-by k (p .filled)) at-root root (p .found) ready-found
     (⊎-elim (λ x. absurd (both-ways (s .changed) fresh x)) (λ x. x) (or-cases (s .changed) (remove k p .changed) c))
 
   turns-on : (turns : ℕ) → passed k s p .changed ≡ true
@@ -68,8 +71,8 @@ module _ (k : Config) (s : State) (fresh : s .changed ≡ false) (r : Ready (s .
   turns-end : (turns : ℕ) → passed k s p .changed ≡ false → Run k s (suc turns) (record { answer = fine (passed k s p .changed); state = passed k s p; made = p ∷ [] })
   turns-end turns c = record {
     numbered = λ _. tt;
-    bounded = λ b x. omega (arith, rooted-reached (p .found) (ready-found .1), reached-found);
-    used = λ b x. pass-used k p (ready-found .0) f (or-parts (s .changed) (remove k p .changed) c .1) }
+    bounded = λ b x. omega (arith, formed-reached (p .found) ready-found, reached-found);
+    used = λ b x. pass-used k p ready-found f (or-parts (s .changed) (remove k p .changed) c .1) }
 
 from-run : (k : Config) (turns : ℕ) (s : State) → s .changed ≡ false → Ready (s .tree) → Run k s turns (passes-from k turns s)
 from-run k zero s fresh r = record { numbered = λ l. absurd (omega (arith, l)); bounded = λ b x. absurd (refused-fine 0 0 b x); used = λ b x. absurd (refused-fine 0 0 b x) }

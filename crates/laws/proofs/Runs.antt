@@ -1,5 +1,5 @@
--- Runs: what is common to all that holds of every list of calls. A state is ready if its tree is refused by a numbered refusal, or sound
--- and rooted; a shaker begun on any words is, and each pass leaves it so.
+-- Runs: what is common to all that holds of every list of calls. A state is ready if its tree is refused by a numbered refusal, or formed
+-- by the table of kinds; a shaker begun on any words is, and each pass leaves it so.
 --
 --   Later                         removals one after another
 --   Ready, begun-ready            the trees of states
@@ -11,24 +11,25 @@ use mathlib.Core.Path.{_≡_, refl, sym, ap, subst, _∙_}
 use mathlib.Core.Bool.{Bool, true, false}
 use mathlib.Core.List.{List, [], _∷_, _++_}
 use mathlib.Core.Logic.{⊎-elim}
-use Rattle.rules.specs.Tree.{Head, Chain, Name, isEnd, append}
-use Rattle.rules.specs.Tree.Chain.{end, link}
+use Rattle.rules.specs.Tree.{Chain, Name}
+use Rattle.rules.specs.Grammar.{root}
 use Rattle.rules.specs.Refusals.{Outcome}
 use Rattle.rules.specs.Refusals.Outcome.{fine, refused}
 use Rattle.rules.specs.Check.{check}
+use Rattle.rules.specs.Held.{Formed}
 use Rattle.rules.specs.Counting.{events-of}
 use Rattle.rules.specs.Tables.{Room, room, fill, no-rows, read-declared}
-use Rattle.rules.specs.Removal.{Config, By, Place, Left, Verdict, at-root, place-inside, entered, has-list, swept, verdict, done, treated, treat}
-use Rattle.rules.specs.Removal.Verdict.{sweeps}
+use Rattle.rules.specs.Removal.{Config, By, at-root, treat}
 use Rattle.rules.specs.Calls.{State, Handed, Filled, Pass, After, Call, Answer, handed-fit, cleared, filled-up, fill-declared, fill-tables, pass-by, passed, pass-filled, pass-checked, pass-once, passes-from, reached-by, call-fitting, unfit-answer, call, calls}
 use Rattle.rules.specs.Calls.Call.{pass, reset, repeat}
 use Rattle.rules.specs.Law.{In, begun-on}
+use Rattle.rules.proofs.Sounds.{check-sound}
 use Rattle.rules.proofs.Fuel.{then-fine}
-use Rattle.laws.proofs.SoundTrees.{Sound, by-list, treated-both}
-use Rattle.laws.proofs.SoundKept.{treat-sound}
-use Rattle.laws.proofs.SoundChecked.{Rooted, check-sound-tree}
-use Rattle.laws.proofs.Fills.{fine-eq}
-use Rattle.laws.proofs.Numbered.{Numbered, numbered-check, numbered-tables}
+use Rattle.laws.proofs.Basics.{fine-eq, elim-both}
+use Rattle.laws.proofs.KeepsFormed.{keeps-formed}
+use Rattle.laws.proofs.TablesFilled.{filled}
+use Rattle.laws.proofs.TablesRoom.{fill-filled}
+use Rattle.laws.proofs.RunsNumbered.{Numbered, numbered-check, numbered-tables}
 
 -- removals one after another, each by tables of its own
 pub data Later : Chain → Chain → Type 0 where
@@ -39,41 +40,23 @@ pub later-then : {c d e : Chain} → Later c d → Later d e → Later c e
 later-then here m = m
 later-then (onward by c l) m = onward by c (later-then l m)
 
--- ROOTS
-
-list-verdict : (by : By) (p : Place) (h : Head) (found children : Chain) → has-list h ≡ true → verdict by p h found children ≡ sweeps
-list-verdict by p h found children g = by-list (λ (h : Head). verdict by p h found children ≡ sweeps) h g refl refl refl
-
-done-list : (h : Head) (inner : Left) (v : Verdict) → v ≡ sweeps → (children : Chain) × (done v h inner .chain ≡ link h children end)
-done-list h inner v e = (swept (inner .chain), subst (λ (w : Verdict). done w h inner .chain ≡ link h (swept (inner .chain)) end) (sym e) refl)
-
-pub treat-rooted : (by : By) (p : Place) (c : Chain) → Rooted c → Rooted (treat by p c .chain)
-treat-rooted by p end g = absurd g
-treat-rooted by p (link h cs rest) g =
-  let inner = treat by (place-inside p h) cs in
-  let s : (d : Chain) × (treated (entered p h cs (isEnd rest)) by p h cs inner .chain ≡ link h d end)
-        = treated-both (entered p h cs (isEnd rest)) by p h cs inner (λ (l : Left). (d : Chain) × (l .chain ≡ link h d end))
-            (λ _. done-list h inner (verdict by p h cs (inner .chain)) (list-verdict by p h cs (inner .chain) g)) (λ _. (cs, refl)) in
-  subst (λ (c : Chain). Rooted (append c (treat by p rest .chain))) (sym (s .1)) g
-
 -- STATES
 
 -- a tree that calls go on with
 abbrev pub Ready : Outcome Chain → Type 0
-Ready (fine c) = Sound 0 c × Rooted c
+Ready (fine c) = Formed root c
 Ready (refused number at) = 1 ≤ number
 
 pub begun-ready : (words : Handed) → Ready (begun-on words .tree)
 begun-ready words = by-outcome (check (words .tree)) refl
   where
     by-outcome : (o : Outcome Chain) → check (words .tree) ≡ o → Ready o
-    by-outcome (fine c) e = check-sound-tree (words .tree) c e
+    by-outcome (fine c) e = check-sound (words .tree) c e .formed
     by-outcome (refused number at) e = subst (λ (o : Outcome Chain). Numbered o) e (numbered-check (words .tree))
 
 -- a completed pass has filled its tables from the tree that it found
-pub record Full (p : Pass) : Type 0 where
-  pub space : Room
-  pub is-full : fill space (events-of (p .found)) no-rows ≡ fine (p .filled .counts)
+abbrev pub Full : Pass → Type 0
+Full p = p .filled .counts ≡ filled (events-of (p .found)) no-rows
 
 -- a pass that was not made leaves the tree; one that was made leaves what its removal does
 pub data Result (k : Config) (s : State) : After (Outcome Bool) → Type 0 where
@@ -82,11 +65,11 @@ pub data Result (k : Config) (s : State) : After (Outcome Bool) → Type 0 where
 
 filled-result : (k : Config) (s : State) (tree : Chain) → s .tree ≡ fine tree → (space : Room) (held : List Name) (o : Outcome Filled) → fill-tables space tree held ≡ o → Result k s (pass-filled k s tree o)
 filled-result k s tree e space held (refused number at) g = not-made number at (filled-up s) (subst (λ (o : Outcome Filled). Numbered o) g (numbered-tables space tree held)) refl
-filled-result k s tree e space held (fine filled) g =
-  let t1 = then-fine (fill-declared space tree held) _ filled g in
-  let t2 = then-fine (fill space (events-of tree) no-rows) _ filled (t1 .2) in
-  one-made (record { found = tree; filled = filled }) e
-    (record { space = space; is-full = t2 .1 ∙ ap (λ (f : Filled). fine (f .counts)) (fine-eq (record { declared = t1 .0; counts = t2 .0 }) filled (t2 .2)) })
+filled-result k s tree e space held (fine rows) g =
+  let t1 = then-fine (fill-declared space tree held) _ rows g in
+  let t2 = then-fine (fill space (events-of tree) no-rows) _ rows (t1 .2) in
+  one-made (record { found = tree; filled = rows }) e
+    (ap (λ (f : Filled). f .counts) (sym (fine-eq (record { declared = t1 .0; counts = t2 .0 }) rows (t2 .2))) ∙ fill-filled space (events-of tree) (t2 .0) (t2 .1))
 
 checked-result : (k : Config) (s : State) (o : Outcome Chain) → s .tree ≡ o → Ready o → Result k s (pass-checked k s o)
 checked-result k s (refused number at) e r = not-made number at s r refl
@@ -99,8 +82,7 @@ pass-result k s r = checked-result k s (s .tree) refl r
 pub result-ready : (k : Config) (s : State) → Ready (s .tree) → (one : After (Outcome Bool)) → Result k s one → Ready (one .state .tree)
 result-ready k s r one (not-made number at left n e) = subst Ready (sym e) r
 result-ready k s r one (one-made p e f) =
-  let q : Ready (fine (p .found)) = subst Ready e r in
-  (treat-sound (pass-by k (p .filled)) at-root 0 (p .found) (q .0), treat-rooted (pass-by k (p .filled)) at-root (p .found) (q .1))
+  keeps-formed (pass-by k (p .filled)) (p .found) (subst Ready e r)
 
 -- TURNS
 
@@ -113,10 +95,6 @@ turn one more = elim (one .answer) [
         record { answer = next .answer; state = next .state; made = one .made ++ next .made })
     | false ↦ one ] ]
 
-by-changed : (P : After (Outcome Bool) → Type 0) (b : Bool) (x y : After (Outcome Bool)) → (b ≡ true → P x) → (b ≡ false → P y) → P (elim b [ true ↦ x | false ↦ y ])
-by-changed P true x y f g = f refl
-by-changed P false x y f g = g refl
-
 -- a turn: no pass, a pass that changed something and what comes after it, or a pass that changed nothing
 pub turn-cases : (k : Config) (s : State) (P : After (Outcome Bool) → Type 0) (more : State → After (Outcome Bool))
   → ((number at : ℕ) (left : State) → 1 ≤ number → left .tree ≡ s .tree → P (record { answer = refused number at; state = left; made = [] }))
@@ -128,18 +106,14 @@ pub turn-cases : (k : Config) (s : State) (P : After (Outcome Bool) → Type 0) 
 turn-cases k s P more f g h one (not-made number at left n e) = f number at left n e
 turn-cases k s P more f g h one (one-made p e full) =
   let next = more (cleared (passed k s p)) in
-  by-changed P (passed k s p .changed) (record { answer = next .answer; state = next .state; made = p ∷ next .made })
+  elim-both P (passed k s p .changed) (record { answer = next .answer; state = next .state; made = p ∷ next .made })
     (record { answer = fine (passed k s p .changed); state = passed k s p; made = p ∷ [] }) (g p e full) (h p e full)
 
 -- CALLS
 
-by-fit : (P : After Answer → Type 0) (b : Bool) (x y : After Answer) → P x → P y → P (elim b [ true ↦ x | false ↦ y ])
-by-fit P true x y f g = f
-by-fit P false x y f g = g
-
 -- a call on words that fit, or one that leaves everything
 pub call-cases : (k : Config) (c : Call) (s : State) (P : After Answer → Type 0) → P (call-fitting k c s) → P (record { answer = unfit-answer c; state = s; made = [] }) → P (call k c s)
-call-cases k c s P f g = by-fit P (handed-fit k s) (call-fitting k c s) (record { answer = unfit-answer c; state = s; made = [] }) f g
+call-cases k c s P f g = elim-both P (handed-fit k s) _ _ (λ _. f) (λ _. g)
 
 from-ready : (k : Config) (left : ℕ) (s : State) → Ready (s .tree) → Ready (passes-from k left s .state .tree)
 from-ready k zero s r = r

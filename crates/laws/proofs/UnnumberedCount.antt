@@ -7,8 +7,8 @@
 --   count-unnumbered                                          what is found in a chain
 use Prim.Native.Nat.{ℕ}
 use mathlib.Core.Path.{_≡_, refl, sym, ap, ap₂, _∙_}
-use mathlib.Core.List.{List, [], _∷_, _++_}
 use mathlib.Core.Bool.{Bool, true, false, _&&_, _||_}
+use mathlib.Core.List.{List, [], _∷_, _++_}
 use lib.Dec.{eqb}
 use Rattle.rules.specs.Tree.{Head, Chain, Name, if_then_else_, _is_, nameOf, unnumbered-head, unnumbered}
 use Rattle.rules.specs.Tree.Chain.{end, link}
@@ -17,8 +17,8 @@ use Rattle.rules.specs.Names.{among, namesOf, distinct, binds, nests, keep, bou
 use Rattle.rules.specs.Counting.{Event, Found, Around, Role, _followed-by_, holders, refer, marked, marks, reference, reading, readings, named-here, calls-eval, own, opens, leave, inside, count}
 use Rattle.rules.specs.Counting.Role.{declared-here, written, read-and-written}
 use Rattle.rules.specs.Tables.{Counts}
-use Rattle.laws.proofs.OrderNames.{cond-ap}
-use Rattle.laws.proofs.OrderTables.{entered, filled}
+use Rattle.laws.proofs.Basics.{cond-ap}
+use Rattle.laws.proofs.TablesFilled.{entered, filled}
 
 abbrev pub unnumbered-heads : List Head → List Head
 unnumbered-heads [] = []
@@ -61,11 +61,11 @@ kept-unnumbered b n h xs ys p q =
   ∙ (ap (λ (zs : List Head). keep b (unnumbered-head h) (zs ++ unnumbered-heads ys)) (sym (cond-ap unnumbered-heads n xs []))
   ∙ (ap (keep b (unnumbered-head h)) (sym (heads-++ (if n then xs else []) ys)) ∙ keep-unnumbered b h ((if n then xs else []) ++ ys)))
 
-pub bound-unnumbered : (c : Chain) → bound (unnumbered c) ≡ unnumbered-heads (bound c)
+bound-unnumbered : (c : Chain) → bound (unnumbered c) ≡ unnumbered-heads (bound c)
 bound-unnumbered end = refl
 bound-unnumbered (link h children rest) = kept-unnumbered (binds h) (nests h) h (bound children) (bound rest) (bound-unnumbered children) (bound-unnumbered rest)
 
-pub exported-unnumbered : (c : Chain) → exported (unnumbered c) ≡ unnumbered-heads (exported c)
+exported-unnumbered : (c : Chain) → exported (unnumbered c) ≡ unnumbered-heads (exported c)
 exported-unnumbered end = refl
 exported-unnumbered (link h children rest) =
   kept-unnumbered (h is fn-declaration || h is class-declaration || binds h) (h is var-declaration || h is declarator || nests h) h (exported children) (exported rest)

@@ -13,9 +13,9 @@ use Rattle.rules.specs.Kinds.{expression, empty-statement, block, expression-st
 use Rattle.rules.specs.Judges.{Lawful}
 use Rattle.rules.specs.Removal.{By, Place, Left, Verdict, place-inside, can-drop-assignment-to, first-acts, entered, swept, keeps-class, name-goes, all-go, only-identifiers, wraps-object, wrapped-object, fn-goes, class-goes, declarator-goes, specifier-goes, import-emptied, var-emptied, var-restates, assignment-yields, call-unwraps, verdict, become, values, joined, both, done, treated, treat}
 use Rattle.rules.specs.Removal.Verdict.{stays, sweeps, empties, unlinks, restates, yields, unwraps}
-use Rattle.laws.proofs.OrderNames.{cond-ap, if-both}
+use Rattle.laws.proofs.Basics.{cond-ap, if-both}
 
-pub twice-unnumbered : (c : Chain) → unnumbered (unnumbered c) ≡ unnumbered c
+twice-unnumbered : (c : Chain) → unnumbered (unnumbered c) ≡ unnumbered c
 twice-unnumbered end = refl
 twice-unnumbered (link h cs rest) = ap₂ (link (unnumbered-head h)) (twice-unnumbered cs) (twice-unnumbered rest)
 
@@ -28,7 +28,7 @@ blind acts lawful c = lawful (unnumbered c) c (ap unnumbered (alone-unnumbered c
 
 -- WHAT IS READ OF A CHAIN
 
-pub isEnd-unnumbered : (c : Chain) → isEnd (unnumbered c) ≡ isEnd c
+isEnd-unnumbered : (c : Chain) → isEnd (unnumbered c) ≡ isEnd c
 isEnd-unnumbered end = refl
 isEnd-unnumbered (link h cs rest) = refl
 

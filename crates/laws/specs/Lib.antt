@@ -1,4 +1,3 @@
 pub mod KeepsTree
-pub mod OrderLaw
-pub mod ReferencesLaw
+pub mod Parts
 pub mod RepeatsLaw

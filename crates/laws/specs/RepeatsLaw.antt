@@ -1,6 +1,5 @@
--- The repeats part of the law about runs, for every list of calls, and that its definition's bound on passes ends no repeat.
+-- The bound on passes that the definition of a repeat has ends no repeat.
 --
---   Repeats-law            a completed repeat makes few passes and leaves no removable function unused
 --   Bound-never-ends       no repeat is told refusal 0
 use Prim.Native.Nat.{ℕ}
 use mathlib.Core.Path.{_≡_}
@@ -9,11 +8,7 @@ use Rattle.rules.specs.Removal.{Config}
 use Rattle.rules.specs.Calls.{Handed, After, Call, Answer, calls}
 use Rattle.rules.specs.Calls.Answer.{repeat-answer}
 use Rattle.rules.specs.Calls.Repeated.{stopped}
-use Rattle.rules.specs.Law.{In, begun-on, Repeats-kept}
-
--- on a shaker begun on any words, whatever its settings, judge and retain list
-abbrev pub Repeats-law : Type 0
-Repeats-law = (k : Config) (cs : List Call) (words : Handed) → Repeats-kept k cs words
+use Rattle.rules.specs.Law.{In, begun-on}
 
 -- 0, the number told where the bound on passes is met, is never told
 abbrev pub Bound-never-ends : Type 0

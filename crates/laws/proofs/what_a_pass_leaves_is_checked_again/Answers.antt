@@ -1,4 +1,4 @@
-use Rattle.laws.proofs.KeepsCount.{keeps-apart, keeps-numbers}
+use Rattle.laws.proofs.KeepsApart.{keeps-apart, keeps-numbers}
 use Rattle.laws.proofs.KeepsLevel.{keeps-level}
 use Rattle.laws.proofs.KeepsReached.{fewer-reached, lost-reached}
 use Rattle.laws.proofs.KeepsFormed.{keeps-formed}

@@ -1,4 +1,7 @@
 -- A counted reference with holders stands inside a declaration of each of them: a name is on a path only below its declaration.
+--
+--   On-paths, inside-on      a name on one of the paths; below a record
+--   holder-inside            the theorem
 use Prim.Native.Nat.{ℕ}
 use mathlib.Core.Path.{_≡_, sym, ap, subst}
 use mathlib.Core.Bool.{Bool, true, false, _||_}
@@ -8,15 +11,15 @@ use Rattle.std.proofs.shelf.Tests.{cond-both}
 use Rattle.rules.specs.Tree.{Head, Chain, Name, if_then_else_, _is_, nameOf}
 use Rattle.rules.specs.Tree.Chain.{end, link}
 use Rattle.rules.specs.Kinds.{export-name, fn-declaration, class-declaration, identifier, call-expression, name-pattern, property-name}
-use Rattle.rules.specs.Names.{among}
 use Rattle.rules.specs.Held.{Numbers}
+use Rattle.rules.specs.Names.{among}
 use Rattle.rules.specs.Counting.{Event, Found, Around, Role, refer, holders, put, nothing, reference, reading, writing, named-here, own, opens, inside, outermost, events-of}
 use Rattle.rules.specs.Counting.Role.{declared-here, written, read-and-written}
 use Rattle.rules.specs.Law.{In, Reference, Inside}
-use Rattle.laws.proofs.Listed.{in-append}
-use Rattle.laws.proofs.Exported.{Exports}
+use Rattle.laws.proofs.Basics.{in-append}
+use Rattle.laws.proofs.RefersExported.{Exports}
 use Rattle.laws.proofs.Refers.{Here, Refers}
-use Rattle.laws.proofs.Tallied.{count-refers}
+use Rattle.laws.proofs.RefersCounted.{count-refers}
 
 -- a name is on one of the paths
 abbrev On-paths : Name → List (List Name) → Type 0

@@ -3,8 +3,8 @@
 --   Tidy, tidy-filled           no name has two rows, and no edge
 --   names-sizes, edges-sizes    equally many rows
 use mathlib.Core.Path.{_≡_, refl}
-use mathlib.Core.List.{List, [], _∷_}
 use mathlib.Core.Bool.{Bool, true, _&&_}
+use mathlib.Core.List.{List, [], _∷_}
 use lib.ListN.{length}
 use Rattle.std.proofs.shelf.Tests.{and-parts, and-from}
 use Rattle.rules.specs.Tree.{Name}
@@ -12,9 +12,9 @@ use Rattle.rules.specs.Names.{same}
 use Rattle.rules.specs.Counting.{Event}
 use Rattle.rules.specs.Tables.{NameRow, EdgeRow, Counts, no-rows, fresh, row-of}
 use Rattle.rules.proofs.SameNames.{same-eq, same-refl}
-use Rattle.laws.proofs.OrderRows.{with-row}
-use Rattle.laws.proofs.OrderTables.{new-edge, adds-edge, adds, held-by, all-held, entered, filled}
-use Rattle.laws.proofs.OrderSizes.{Single, single-with-row, single-with-change, equal-sizes}
+use Rattle.laws.proofs.TablesRows.{with-row}
+use Rattle.laws.proofs.TablesFilled.{new-edge, adds-edge, adds, held-by, all-held, entered, filled}
+use Rattle.laws.proofs.TablesSizes.{Single, single-with-row, single-with-change, equal-sizes}
 use Rattle.laws.proofs.AlikeTables.{Alike}
 
 -- the key of a row of names

@@ -3,32 +3,29 @@
 --
 --   treat-used          a removal that changes nothing leaves only used removable functions
 --   pass-used           so they are counted
-use Prim.Native.Nat.{ℕ}
 use mathlib.Core.Path.{_≡_, refl, sym, subst, _∙_}
 use mathlib.Core.Bool.{Bool, true, false, not}
+use mathlib.Core.List.{List}
 use mathlib.Core.Logic.{_⊎_, inl, inr, ⊎-elim}
 use lib.Dec.{eqb}
 use Rattle.std.proofs.shelf.Tests.{cond-both, and-parts, and-from, both-ways, or-parts, cases-bool, not-false}
 use Rattle.rules.specs.Tree.{Head, Chain, Name, _is_, nameOf, isEnd, append}
 use Rattle.rules.specs.Tree.Chain.{end, link}
 use Rattle.rules.specs.Kinds.{fn-declaration, for-statement}
+use Rattle.rules.specs.Grammar.{Way, children-of, step, root}
+use Rattle.rules.specs.Held.{Formed}
 use Rattle.rules.specs.Counting.{Found, outermost, events-of}
-use Rattle.rules.specs.Tables.{NameRow, look}
+use Rattle.rules.specs.Tables.{NameRow, Counts, look}
 use Rattle.rules.specs.Rings.{discount}
 use Rattle.rules.specs.Removal.{Config, By, Place, Left, Verdict, at-root, permitted, retained, unused, place-inside, entered, has-list, swept, fn-goes, verdict, done, treated, treat}
 use Rattle.rules.specs.Removal.Verdict.{stays, sweeps, empties, unlinks, restates, yields, unwraps}
 use Rattle.rules.specs.Calls.{Pass, pass-by, remove}
 use Rattle.rules.specs.Law.{removable, Removable, Counted}
-use Rattle.laws.proofs.Verdicts.{Means, means}
-use Rattle.laws.proofs.SoundTrees.{Sound, by-list, treated-both}
-use Rattle.laws.proofs.Graphs.{counted-only}
-use Rattle.laws.proofs.ClosedRings.{counted-row}
+use Rattle.laws.proofs.Verdicts.{Means, means, treated-both, by-list, entered-anywhere}
+use Rattle.laws.proofs.TablesTold.{counted-only}
+use Rattle.laws.proofs.RingsDiscount.{counted-row}
 use Rattle.laws.proofs.Runs.{Full}
-use Rattle.laws.proofs.Unchanged.{treat-same}
-
--- outside a For it does not matter whether a record is the last
-entered-anywhere : (p : Place) (h : Head) (cs : Chain) (a b : Bool) → eqb (p .parent) for-statement ≡ false → entered p h cs a ≡ entered p h cs b
-entered-anywhere p h cs a b g = rw g
+use Rattle.laws.proofs.RepeatsUnchanged.{treat-same}
 
 list-no-for : (h : Head) → has-list h ≡ true → eqb (h .kind) for-statement ≡ false
 list-no-for h g = by-list (λ (h : Head). eqb (h .kind) for-statement ≡ false) h g refl refl refl
@@ -86,28 +83,28 @@ module _ (by : By) (n : Name) where
     subst (λ (c : Chain). Leaves p (append c (b .chain))) (sym (x .is-link))
       (λ y. ⊎-elim (λ z. x .used (subst (λ (l : Bool). entered p h (x .children) l ≡ true) e (z .0)) (z .1)) u y)
 
-  pub treat-used : (p : Place) (above : ℕ) (c : Chain) → Sound above c → treat by p c .changed ≡ false → Leaves p (treat by p c .chain)
-  treat-used p above end s g = λ x. absurd x
-  treat-used p above (link h cs rest) s g =
+  treat-used : (p : Place) (ways : List Way) (c : Chain) → Formed ways c → treat by p c .changed ≡ false → Leaves p (treat by p c .chain)
+  treat-used p ways end s g = λ x. absurd x
+  treat-used p ways (link h cs rest) s g =
     let inner = treat by (place-inside p h) cs in
     let one = treated (entered p h cs (isEnd rest)) by p h cs inner in
     let q = or-parts (one .changed) (treat by p rest .changed) g in
-    both-used p h (isEnd rest) one (treat by p rest) (treat-same by p above rest (s .2) (q .1) .ends)
+    both-used p h (isEnd rest) one (treat by p rest) (treat-same by p (step (h .kind) ways) rest (s .3) (q .1) .ends)
       (treated-both (entered p h cs (isEnd rest)) by p h cs inner (λ (l : Left). l .changed ≡ false → Leaves-here p h (isEnd rest) l)
-        (λ _. done-used p h cs (isEnd rest) inner (treat-used (place-inside p h) (h .kind) cs (s .1)) (verdict by p h cs (inner .chain)) (means by p h cs (inner .chain)))
+        (λ _. done-used p h cs (isEnd rest) inner (treat-used (place-inside p h) (children-of h) cs (s .2)) (verdict by p h cs (inner .chain)) (means by p h cs (inner .chain)))
         (λ f _. record { children = cs; is-link = refl; used = λ e _. absurd (both-ways (entered p h cs (isEnd rest)) f e) })
         (q .0))
-      (treat-used p above rest (s .2) (q .1))
+      (treat-used p (step (h .kind) ways) rest (s .3) (q .1))
 
 used-counted : (r : NameRow) → unused r ≡ false → r .counted ≡ true
 used-counted r g = not-false (r .counted) (or-parts (not (r .counted)) _ g .0)
 
 -- no removable function that a pass without a change leaves lacks a counted reference or mark
-pub pass-used : (k : Config) (p : Pass) → Sound 0 (p .found) → Full p → remove k p .changed ≡ false
+pub pass-used : (k : Config) (p : Pass) → Formed root (p .found) → Full p → remove k p .changed ≡ false
   → (n : Name) → Removable k at-root n (remove k p .chain) → Counted n (events-of (remove k p .chain))
 pass-used k p s f g n x =
   let by = pass-by k (p .filled) in
   let c = p .filled .counts in
-  let u = used-counted (look n (discount c)) (treat-used by n at-root 0 (p .found) s g x) in
-  let found = counted-only n (f .space) (events-of (p .found)) c (f .is-full) (sym (counted-row c n) ∙ u) in
-  subst (λ (t : Found). Counted n (t .events)) (sym (treat-same by at-root 0 (p .found) s g .counts outermost)) found
+  let u = used-counted (look n (discount c)) (treat-used by n at-root root (p .found) s g x) in
+  let found = counted-only n (events-of (p .found)) (subst (λ (t : Counts). look n (t .names) .counted ≡ true) f (sym (counted-row c n) ∙ u)) in
+  subst (λ (t : Found). Counted n (t .events)) (sym (treat-same by at-root root (p .found) s g .counts outermost)) found

@@ -1,4 +1,8 @@
--- The refusals of the check and of the tables have numbers from 1: none is told as 0.
+-- The refusals of the check and of the tables have numbers from 1: none is told as 0. Each refusal is one of the named ones, and what is
+-- done one after another refuses as its parts do.
+--
+--   Numbered                               a result, or a refusal with such a number
+--   numbered-check, numbered-tables        the check; the tables
 use Prim.Native.Nat.{ℕ, zero, suc, _≤_}
 use native.Mathlib.Omega.{arith}
 use mathlib.Core.Bool.{Bool, true, false, not, _||_}
@@ -11,11 +15,12 @@ use Rattle.rules.specs.Grammar.{Way, words-fit, children-of, step, misplaced, m
 use Rattle.rules.specs.Refusals.{Outcome, andThen, bad-link, too-deep, bad-record, declared-full, names-full, edges-full}
 use Rattle.rules.specs.Refusals.Outcome.{fine, refused}
 use Rattle.rules.specs.Words.{first-child, next, headAt, records}
-use Rattle.rules.specs.Check.{Read, most-nesting, tree-fits, take, stop, walk, check}
+use Rattle.rules.specs.Check.{most-nesting, tree-fits, take, stop, walk, check}
 use Rattle.rules.specs.Names.{same, declared}
 use Rattle.rules.specs.Counting.{Event, events-of}
 use Rattle.rules.specs.Tables.{EdgeRow, Counts, Room, need, declare, fresh, row-of, edge-of, need-name, need-edge, grow-edge, hold, enter, fill, no-rows, some-row}
 use Rattle.rules.specs.Calls.{fill-declared, fill-tables}
+use Rattle.laws.proofs.Basics.{elim-both}
 
 -- a result, or a refusal with a number from 1
 abbrev pub Numbered : {A : Type 0} → Outcome A → Type 0
@@ -46,16 +51,12 @@ numbered-stop ways parent before = numbered-if (may-end ways) _ _ tt (omega arit
 numbered-walk : (words : List ℕ) (left n nesting : ℕ) (ways : List Way) (parent : ℕ) (before : List ℕ) → Numbered (walk words left n nesting ways parent before)
 numbered-walk words zero n nesting ways parent before = numbered-if (eqb n 0) _ _ (numbered-stop ways parent before) (omega arith)
 numbered-walk words (suc left) n nesting ways parent before =
-  by-link (eqb n 0) (stop ways parent before) _ (numbered-stop ways parent before)
-    (numbered-then (take words n nesting ways before) _ (numbered-take words n nesting ways before) (λ onward.
+  elim-both Numbered (eqb n 0) (stop ways parent before) _ (λ _. numbered-stop ways parent before)
+    (λ _. numbered-then (take words n nesting ways before) _ (numbered-take words n nesting ways before) (λ onward.
     numbered-then (walk words left (first-child words n) (suc nesting) (children-of (headAt words n)) n (n ∷ before)) _
       (numbered-walk words left (first-child words n) (suc nesting) (children-of (headAt words n)) n (n ∷ before)) (λ below.
     numbered-then (walk words left (next words n) nesting onward parent (below .reached)) _
       (numbered-walk words left (next words n) nesting onward parent (below .reached)) (λ rest. tt))))
-  where
-    by-link : (b : Bool) (o p : Outcome Read) → Numbered o → Numbered p → Numbered (elim b [ true ↦ o | false ↦ p ])
-    by-link true o p x y = x
-    by-link false o p x y = y
 
 pub numbered-check : (words : List ℕ) → Numbered (check words)
 numbered-check words = numbered-if (tree-fits (length words)) _ _

@@ -9,17 +9,16 @@
 use Prim.Native.Nat.{_+_}
 use native.Mathlib.Omega.{arith}
 use mathlib.Core.Path.{_≡_, refl, sym, ap, _∙_, subst}
-use mathlib.Core.List.{List, [], _∷_}
 use mathlib.Core.Bool.{Bool, true, false, cond, _&&_, _||_, or-assoc}
+use mathlib.Core.List.{List, [], _∷_}
 use Rattle.std.proofs.shelf.Tests.{false≢true}
 use Rattle.rules.specs.Tree.{Name}
 use Rattle.rules.specs.Names.{same}
 use Rattle.rules.specs.Counting.{Event}
 use Rattle.rules.specs.Tables.{NameRow, EdgeRow, Counts, some-row, fresh, look, row-of, edge-of, reads, writes}
 use Rattle.rules.proofs.SameNames.{same-eq}
-use Rattle.laws.proofs.OrderNames.{or-swap, or-twice, or-turn, cond-ap, cond-nest, cond-commutes, by-same}
-use Rattle.laws.proofs.Shuffles.{Commutes}
-use Rattle.laws.proofs.OrderRows.{with-row, with-change, some-with-row, some-with-change}
+use Rattle.laws.proofs.Basics.{or-swap, or-twice, or-turn, cond-ap, cond-nest, cond-commutes, by-same, Commutes}
+use Rattle.laws.proofs.TablesRows.{with-row, with-change, some-with-row, some-with-change}
 
 -- an edge's row before anything is counted
 abbrev pub new-edge : (from to : Name) → EdgeRow
@@ -106,10 +105,10 @@ seen-commutes m x y r = cond-commutes (same m (x .name)) (same m (y .name)) (add
 abbrev pub some-name : (Name → Bool) → List NameRow → Bool
 some-name p rs = some-row (λ r. p (r .name)) rs
 
-pub some-name-with : (p : Name → Bool) (n : Name) (rs : List NameRow) → some-name p (with-row (row-of n) (fresh n) rs) ≡ (p n || some-name p rs)
+some-name-with : (p : Name → Bool) (n : Name) (rs : List NameRow) → some-name p (with-row (row-of n) (fresh n) rs) ≡ (p n || some-name p rs)
 some-name-with p n rs = some-with-row (λ r. p (r .name)) (row-of n) (fresh n) (λ r q h. subst (λ (x : Name). p x ≡ true) (same-eq n (r .name) q) h) rs
 
-pub some-name-changed : (p : Name → Bool) (n : Name) (e : Event) (rs : List NameRow) → some-name p (with-change (row-of n) (fresh n) (adds e) rs) ≡ (p n || some-name p rs)
+some-name-changed : (p : Name → Bool) (n : Name) (e : Event) (rs : List NameRow) → some-name p (with-change (row-of n) (fresh n) (adds e) rs) ≡ (p n || some-name p rs)
 some-name-changed p n e rs = some-with-change (λ r. p (r .name)) (row-of n) (fresh n) (adds e) (p n) refl
   (λ r q. subst (λ (x : Name). p x ≡ (p n || p x)) (same-eq n (r .name) q) (or-twice (p n))) rs
 

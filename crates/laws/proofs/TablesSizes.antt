@@ -6,15 +6,15 @@
 --   equal-sizes                          the same keys, equally many rows
 use Prim.Native.Nat.{suc}
 use mathlib.Core.Path.{_≡_, refl, sym, ap, _∙_, subst}
-use mathlib.Core.List.{List, [], _∷_}
 use mathlib.Core.Bool.{Bool, true, false, cond, _&&_, _||_, not}
+use mathlib.Core.List.{List, [], _∷_}
 use mathlib.Core.Logic.{inl, inr}
 use lib.ListN.{length}
 use Rattle.std.proofs.shelf.Tests.{true≢false, false≢true, cases-bool, or-left, or-from, and-right}
 use Rattle.rules.specs.Tree.{if_then_else_}
 use Rattle.rules.specs.Tables.{some-row}
-use Rattle.laws.proofs.OrderNames.{or-twice}
-use Rattle.laws.proofs.OrderRows.{with-row, with-change, some-with-row, some-with-change}
+use Rattle.laws.proofs.Basics.{or-twice, by-equal}
+use Rattle.laws.proofs.TablesRows.{with-row, with-change, some-with-row, some-with-change}
 
 module _ {Row K : Type 0} (key : Row → K) (eq : K → K → Bool) where
   -- a row has this key
@@ -33,10 +33,6 @@ module _ {Row K : Type 0} (key : Row → K) (eq : K → K → Bool) where
 module _ {Row K : Type 0} (key : Row → K) (eq : K → K → Bool) (sound : (a b : K) → eq a b ≡ true → a ≡ b) (whole : (a : K) → eq a a ≡ true) where
   turned : (a b : K) → eq a b ≡ false → eq b a ≡ false
   turned a b q = elim (cases-bool (eq b a)) [ inl t ↦ absurd (true≢false (sym (whole a) ∙ (ap (eq a) (sym (sound b a t)) ∙ q))) | inr f ↦ f ]
-
-  -- at one key, or at two that differ
-  at-key : (a b : K) (P : K → Bool → Type 0) → P a true → (eq a b ≡ false → P b false) → P b (eq a b)
-  at-key a b P s d = elim (cases-bool (eq a b)) [ inl t ↦ subst (λ (x : K). P x (eq a x)) (sound a b t) (subst (P a) (sym (whole a)) s) | inr f ↦ subst (P b) (sym f) (d f) ]
 
   pub single-with-row : (new : Row) (rs : List Row) → Single key eq rs → Single key eq (with-row (λ r. eq (key new) (key r)) new rs)
   single-with-row new [] p = (refl, tt)
@@ -59,10 +55,10 @@ module _ {Row K : Type 0} (key : Row → K) (eq : K → K → Bool) (sound : (a 
 
   has-without : (k x : K) (rs : List Row) → Single key eq rs → has-key key eq k (without key eq x rs) ≡ (not (eq k x) && has-key key eq k rs)
   has-without k x [] p = sym (and-right (not (eq k x)) false refl)
-  has-without k x (r ∷ rs) p = at-key x (key r) (λ z b. has-key key eq z rs ≡ false → has-key key eq k (cond b rs (r ∷ without key eq x rs)) ≡ (not (eq k x) && (eq k z || has-key key eq k rs)))
-    (λ q. at-key k x (λ z b. has-key key eq z rs ≡ false → has-key key eq k rs ≡ (not b && (b || has-key key eq k rs))) (λ f. f) (λ _ _. refl) q)
+  has-without k x (r ∷ rs) p = by-equal eq sound whole x (key r) (λ z b. has-key key eq z rs ≡ false → has-key key eq k (cond b rs (r ∷ without key eq x rs)) ≡ (not (eq k x) && (eq k z || has-key key eq k rs)))
+    (λ q. by-equal eq sound whole k x (λ z b. has-key key eq z rs ≡ false → has-key key eq k rs ≡ (not b && (b || has-key key eq k rs))) (λ f. f) (λ _ _. refl) q)
     (λ d q. ap (λ (b : Bool). eq k (key r) || b) (has-without k x rs (p .1))
-      ∙ at-key k (key r) (λ z b. eq x z ≡ false → (b || (not (eq k x) && has-key key eq k rs)) ≡ (not (eq k x) && (b || has-key key eq k rs)))
+      ∙ by-equal eq sound whole k (key r) (λ z b. eq x z ≡ false → (b || (not (eq k x) && has-key key eq k rs)) ≡ (not (eq k x) && (b || has-key key eq k rs)))
           (λ f. ap (λ (b : Bool). not b && true) (sym (turned x k f)))
           (λ _ _. refl) d)
     (p .0)
@@ -83,6 +79,6 @@ module _ {Row K : Type 0} (key : Row → K) (eq : K → K → Bool) (sound : (a 
   equal-sizes (x ∷ xs) ys p q h =
     let there : has-key key eq (key x) ys ≡ true = sym (h (key x)) ∙ or-left (eq (key x) (key x)) (has-key key eq (key x) xs) (whole (key x)) in
     ap suc (equal-sizes xs (without key eq (key x) ys) (p .1) (single-without (key x) ys q)
-      (λ k. at-key k (key x) (λ z b. has-key key eq z xs ≡ false → has-key key eq k xs ≡ (not b && (b || has-key key eq k xs))) (λ f. f) (λ _ _. refl) (p .0)
+      (λ k. by-equal eq sound whole k (key x) (λ z b. has-key key eq z xs ≡ false → has-key key eq k xs ≡ (not b && (b || has-key key eq k xs))) (λ f. f) (λ _ _. refl) (p .0)
         ∙ (ap (λ (b : Bool). not (eq k (key x)) && b) (h k) ∙ sym (has-without k (key x) ys q))))
     ∙ sym (length-without (key x) ys there)

@@ -13,8 +13,8 @@ use Rattle.rules.specs.Kinds.{export-declaration, export-name, function, identi
 use Rattle.rules.specs.Names.{namesOf, distinct, bound, declared-below, exported}
 use Rattle.rules.specs.Counting.{Event, Found, Around, unheld, nothing, reading, writing, readings, marks, named-here, calls-eval, own, opens, leave, inside, count}
 use Rattle.rules.specs.Law.{In, Reference}
-use Rattle.laws.proofs.Listed.{in-append, in-left, in-right}
-use Rattle.laws.proofs.Exported.{in-exported, exported-in}
+use Rattle.laws.proofs.Basics.{in-append, in-left, in-right}
+use Rattle.laws.proofs.RefersExported.{in-exported, exported-in}
 use Rattle.laws.proofs.Refers.{Refers}
 
 -- what a record refers to does not hang on its children

@@ -13,14 +13,17 @@ use Rattle.std.proofs.shelf.Tests.{cond-both, both-ways, eqb-true, cases-bool}
 use Rattle.rules.specs.Tree.{Head, Chain, if_then_else_, _is_, isEnd, after, alone, append}
 use Rattle.rules.specs.Tree.Chain.{end, link}
 use Rattle.rules.specs.Kinds.{expression, fn-declaration, class-declaration, var-declaration, declarator, name-pattern, compound-pattern, default-pattern, property-name}
+use Rattle.rules.specs.Grammar.{Way, assigned, children-of, step}
+use Rattle.rules.specs.Held.{Formed}
 use Rattle.rules.specs.Names.{binds, nests, keep, exported}
 use Rattle.rules.specs.Removal.{By, Place, Left, Verdict, place-inside, entered, swept, wrapped-object, verdict, done, treated, treat}
 use Rattle.rules.specs.Removal.Verdict.{stays, sweeps, empties, unlinks, restates, yields, unwraps}
 use Rattle.rules.specs.Law.{In}
-use Rattle.laws.proofs.Listed.{in-append, in-left, in-right}
-use Rattle.laws.proofs.Verdicts.{Means, means}
-use Rattle.laws.proofs.SoundTrees.{first-kind, Sound, treated-both, wraps}
-use Rattle.laws.proofs.SoundKept.{Kept, treat-kept}
+use Rattle.laws.proofs.Basics.{in-append, in-left, in-right, in-if, if-in}
+use Rattle.laws.proofs.Formed.{first-kind, assigned-value}
+use Rattle.laws.proofs.Verdicts.{Means, means, treated-both, wraps}
+use Rattle.laws.proofs.KeepsTable.{inner-ways}
+use Rattle.laws.proofs.KeepsFormed.{inner-kept}
 
 -- a record bears an exported name
 abbrev bears : Head → Bool
@@ -43,13 +46,6 @@ in-keep g h false hs x = inr x
 keep-in : (g h : Head) (b : Bool) (hs : List Head) → ((b ≡ true) × (g ≡ h)) ⊎ In g hs → In g (keep b h hs)
 keep-in g h true hs x = ⊎-elim (λ y. inl (y .1)) (λ y. inr y) x
 keep-in g h false hs x = ⊎-elim (λ y. absurd (both-ways false refl (y .0))) (λ y. y) x
-
-in-if : (g : Head) (b : Bool) (hs : List Head) → In g (if b then hs else []) → (b ≡ true) × In g hs
-in-if g true hs x = (refl, x)
-in-if g false hs x = absurd x
-
-if-in : (g : Head) (b : Bool) (hs : List Head) → b ≡ true → In g hs → In g (if b then hs else [])
-if-in g b hs e x = rw e x
 
 pub in-exported : (g : Head) (c : Chain) → In g (exported c) → Exports g c
 in-exported g end x = x
@@ -99,28 +95,28 @@ module _ (g : Head) where
     (λ z. both-ways (bears h) (expression-bears h x) (z .0))
     (λ w. ⊎-elim (λ z. both-ways (carries h) (expression-carries h x) (z .0)) (λ z. z) w) y
 
-  done-exports : (by : By) (p : Place) (h : Head) (found : Chain) (inner : Left) → Kept h (inner .chain) → (Exports g (inner .chain) → Exports g found)
+  done-exports : (by : By) (p : Place) (h : Head) (found : Chain) (inner : Left) → Formed (inner-ways h) (inner .chain) → (Exports g (inner .chain) → Exports g found)
     → (v : Verdict) → Means by p h found (inner .chain) v → Exports g (done v h inner .chain) → Exports g (link h found end)
   done-exports by p h found inner k t stays m x = ⊎-elim (λ y. inl y) (λ z. inr (⊎-elim (λ y. inl (y .0, t (y .1))) (λ y. absurd y) z)) x
   done-exports by p h found inner k t sweeps m x = ⊎-elim (λ y. inl y) (λ z. inr (⊎-elim (λ y. inl (y .0, t (exports-swept (inner .chain) (y .1)))) (λ y. absurd y) z)) x
   done-exports by p h found inner k t (empties ns) m x = absurd (⊎-elim (λ y. both-ways false refl (y .0)) (λ z. ⊎-elim (λ y. both-ways false refl (y .0)) (λ y. y) z) x)
   done-exports by p h found inner k t (unlinks n) m x = absurd x
   done-exports by p h found inner k t restates m x = absurd (⊎-elim (λ y. both-ways false refl (y .0)) (λ z. ⊎-elim (λ y. both-ways false refl (y .0)) (λ y. y) z) x)
-  done-exports by p h found inner k t (yields n) m x = absurd (expression-exports (after (inner .chain)) (k .value (m .kind)) x)
+  done-exports by p h found inner k t (yields n) m x = absurd (expression-exports (after (inner .chain)) (assigned-value (assigned h) (inner .chain) (rw (m .kind) at k)) x)
   done-exports by p h found inner k t unwraps m x =
     absurd (expression-exports (wrapped-object (inner .chain)) (subst (λ (j : ℕ). expression j ≡ true) (sym (wraps (inner .chain) (m .wraps) .object)) refl) x)
 
-  pub treat-exports : (by : By) (p : Place) (above : ℕ) (c : Chain) → Sound above c → Exports g (treat by p c .chain) → Exports g c
-  treat-exports by p above end s x = x
-  treat-exports by p above (link h cs rest) s x =
+  pub treat-exports : (by : By) (p : Place) (ways : List Way) (c : Chain) → Formed ways c → Exports g (treat by p c .chain) → Exports g c
+  treat-exports by p ways end s x = x
+  treat-exports by p ways (link h cs rest) s x =
     let inner = treat by (place-inside p h) cs in
     let here = treated (entered p h cs (isEnd rest)) by p h cs inner in
     let first : Exports g (here .chain) → Exports g (link h cs end)
           = treated-both (entered p h cs (isEnd rest)) by p h cs inner (λ (l : Left). Exports g (l .chain) → Exports g (link h cs end))
-              (λ _. done-exports by p h cs inner (treat-kept by (place-inside p h) above h cs (s .0) (s .1)) (treat-exports by (place-inside p h) (h .kind) cs (s .1))
+              (λ _. done-exports by p h cs inner (inner-kept by p h cs (s .2)) (treat-exports by (place-inside p h) (children-of h) cs (s .2))
                 (verdict by p h cs (inner .chain)) (means by p h cs (inner .chain)))
               (λ _ y. y) in
     ⊎-elim
       (λ y. ⊎-elim (λ z. inl z) (λ z. inr (⊎-elim (λ w. inl w) (λ w. absurd w) z)) (first y))
-      (λ y. inr (inr (treat-exports by p above rest (s .2) y)))
+      (λ y. inr (inr (treat-exports by p (step (h .kind) ways) rest (s .3) y)))
       (exports-append (here .chain) (treat by p rest .chain) x)

@@ -7,7 +7,6 @@
 --   First-kept, first-kept         the first one that is left was not to go
 --   values-formed, joined-formed   the values are expressions, and they join to one
 --   kept-valued, restated-formed   one that stays although its name can go has a value; what a Var becomes has its child
-use Prim.Native.Nat.{ℕ}
 use native.Mathlib.Omega.{arith}
 use mathlib.Core.Path.{_≡_, refl, sym, subst, _∙_}
 use mathlib.Core.Bool.{Bool, true, false, not, _&&_, _||_}
@@ -18,16 +17,15 @@ use Rattle.std.proofs.shelf.Tests.{cond-both, both-ways, cases-bool, and-parts,
 use Rattle.rules.specs.Tree.{Head, Chain, _is_, flagged, isEnd, after, alone, append}
 use Rattle.rules.specs.Tree.Chain.{end, link}
 use Rattle.rules.specs.Kinds.{expression, pattern, plain-expression, var-declaration, for-statement, with-statement, declarator, only}
-use Rattle.rules.specs.Grammar.{Way, children-of, step, misplaced}
+use Rattle.rules.specs.Grammar.{Way}
 use Rattle.rules.specs.Grammar.Part.{one, maybe}
 use Rattle.rules.specs.Held.{Formed}
 use Rattle.rules.specs.Removal.{By, Place, Left, Verdict, place-inside, entered, has-list, first-acts, name-goes, all-go, declarator-goes, become, values, joined, verdict, done, treated, treat}
 use Rattle.rules.specs.Removal.Verdict.{stays, sweeps, empties, unlinks, restates, yields, unwraps}
-use Rattle.laws.proofs.KeepsMeans.{Means, means, Emptied, Unlinked, Restated}
-use Rattle.laws.proofs.KeepsMeans.Emptied.{fn, class, importing, var}
-use Rattle.laws.proofs.KeepsMeans.Unlinked.{declaring, specifying}
+use Rattle.laws.proofs.Formed.{list-of, listed, list-link, formed-one, one-link, maybe-taken, binding-ways, declarator-children}
+use Rattle.laws.proofs.Verdicts.{Means, means, Emptying, emptying-kind, Unlinking, Restated}
+use Rattle.laws.proofs.Verdicts.Unlinking.{declares, specifies}
 use Rattle.laws.proofs.KeepsTable.{declarators}
-use Rattle.laws.proofs.KeepsLists.{list-of, listed, list-link, one-first, one-link}
 
 and-none : (b : Bool) → (b && false) ≡ false
 and-none true = refl
@@ -48,26 +46,23 @@ pub data Declarator-left (by : By) (p : Place) (h : Head) (children left : Chain
   gone : left ≡ end → p .in-export ≡ false → Declarator-left by p h children left
 
 module _ (by : By) (p : Place) (h : Head) (k : h .kind ≡ declarator) where
-  emptied-other : (found children : Chain) → Emptied p h found children → ⊥
-  emptied-other found children (fn e x) = omega arith
-  emptied-other found children (class e x) = omega arith
-  emptied-other found children (importing e x) = omega arith
-  emptied-other found children (var e x) = omega arith
+  emptied-other : (found children : Chain) → Emptying p h found children → ⊥
+  emptied-other found children m = both-ways false refl (rw k at (emptying-kind p h found children m))
 
-  unlinked-inward : Unlinked p h → p .in-export ≡ false
-  unlinked-inward (declaring e x) = x
-  unlinked-inward (specifying e) = absurd (omega arith)
+  unlinked-inward : Unlinking p h → p .in-export ≡ false
+  unlinked-inward (declares e x) = x
+  unlinked-inward (specifies e) = absurd (omega arith)
 
   done-declarator : (found : Chain) (inner : Left) (v : Verdict) → Means by p h found (inner .chain) v → Declarator-left by p h (inner .chain) (done v h inner .chain)
   done-declarator found inner stays m = kept refl (m .bound)
   done-declarator found inner sweeps m = absurd (both-ways (has-list h) (rw k) m)
-  done-declarator found inner (empties names) m = absurd (emptied-other found (inner .chain) m)
-  done-declarator found inner (unlinks name) m = gone refl (unlinked-inward m)
+  done-declarator found inner (empties names) m = absurd (emptied-other found (inner .chain) (m .which))
+  done-declarator found inner (unlinks name) m = gone refl (unlinked-inward (m .which))
   done-declarator found inner restates m = absurd (omega (arith, m .kind))
   done-declarator found inner (yields name) m = absurd (omega (arith, m .kind))
   done-declarator found inner unwraps m = absurd (omega (arith, m .kind))
 
-  pub declarator-left : (found : Chain) (last : Bool) (inner : Left) →
+  declarator-left : (found : Chain) (last : Bool) (inner : Left) →
     Declarator-left by p h (inner .chain) (treated (entered p h found last) by p h found inner .chain)
   declarator-left found last inner =
     subst (λ (b : Bool). Declarator-left by p h (inner .chain) (treated b by p h found inner .chain)) (sym (declarator-entered p h found last k))
@@ -101,26 +96,15 @@ first-kept by p (link h children rest) f =
       kept left bound ↦ subst (λ (d : Chain). First-kept by p (append d onward)) (sym left) (k, bound)
     | gone left inward ↦ subst (λ (d : Chain). First-kept by p (append d onward)) (sym left) i ]
 
--- a Declarator's children
-abbrev binding-ways : List Way
-binding-ways = (one pattern ∷ maybe expression ∷ []) ∷ []
-
-declarator-children : (d : Head) → d .kind ≡ declarator → children-of d ≡ binding-ways
-declarator-children d k = rw k
-
--- an expression that may stand at the end
-maybe-taken : (k : ℕ) → misplaced (step k ((maybe expression ∷ []) ∷ [])) ≡ false → expression k ≡ true
-maybe-taken k e = ⊎-elim (λ x. x) (λ x. absurd (both-ways true (rw x at e) refl)) (cases-bool (expression k))
-
 -- the value of a Declarator, before other expressions
 value-formed : (parts others : Chain) → Formed binding-ways parts → Formed (list-of expression) others → Formed (list-of expression) (append (alone (after parts)) others)
 value-formed end others f g = g
 value-formed (link t under end) others f g = g
 value-formed (link t under (link v inside rest)) others f g =
-  let p = one-first pattern (maybe expression ∷ []) t under (link v inside rest) f .1 in
-  list-link expression v inside others (maybe-taken (v .kind) (p .1)) (p .0) (p .2) g
+  let p = formed-one pattern (maybe expression ∷ []) (link t under (link v inside rest)) f .1 in
+  list-link expression v inside others (maybe-taken expression (v .kind) (p .1)) (p .0) (p .2) g
 
-pub values-formed : (c : Chain) → Formed declarators c → Formed (list-of expression) (values c)
+values-formed : (c : Chain) → Formed declarators c → Formed (list-of expression) (values c)
 values-formed end f = refl
 values-formed (link d parts rest) f =
   let l = listed (only declarator) d parts rest f in
@@ -138,7 +122,7 @@ append-filled end d e = absurd (both-ways true e refl)
 append-filled (link h children rest) d e = refl
 
 -- values join to one expression, if the first Declarator has one
-pub joined-formed : (d : Head) (parts rest : Chain) → isEnd (after parts) ≡ false → Formed declarators (link d parts rest) →
+joined-formed : (d : Head) (parts rest : Chain) → isEnd (after parts) ≡ false → Formed declarators (link d parts rest) →
   Formed ((one expression ∷ []) ∷ []) (joined (link d parts rest))
 joined-formed d parts rest e f =
   let all = values (link d parts rest) in

@@ -8,14 +8,14 @@
 use Prim.Native.Nat.{ℕ, _+_}
 use native.Mathlib.Omega.{arith}
 use mathlib.Core.Path.{_≡_, refl, ap, _∙_}
-use mathlib.Core.List.{List, [], _∷_, _++_}
 use mathlib.Core.Bool.{Bool, true, false, _||_, or-assoc}
+use mathlib.Core.List.{List, [], _∷_, _++_}
 use mathlib.Core.Logic.{inl, inr}
 use Rattle.std.proofs.shelf.Tests.{false≢true, cases-bool, cond-true, or-cases, or-left, or-right, or-parts}
 use Rattle.rules.specs.Tree.{if_then_else_}
 use Rattle.rules.specs.Tables.{EdgeRow, some-row, change}
 use Rattle.rules.specs.Rings.{total}
-use Rattle.laws.proofs.OrderNames.{bool-eq, or-swap}
+use Rattle.laws.proofs.Basics.{bool-eq, or-swap}
 
 -- a row is there: it is, or it comes last
 abbrev pub with-row : {Row : Type 0} → (Row → Bool) → Row → List Row → List Row

@@ -4,12 +4,12 @@
 --   Bounded, then-bounded          an outcome that is a result exactly if a test passes
 --   fits, Larger                   the rows fit; tables grow
 --   all-declared, declare-bounded  the declared names, each once
---   fill-bounded                   names and edges
+--   fill-bounded, fill-filled      names and edges
 use Prim.Native.Nat.{ℕ, suc, _+_, _≤_}
 use native.Mathlib.Omega.{arith}
 use mathlib.Core.Path.{_≡_, refl, sym, ap, _∙_, subst}
-use mathlib.Core.List.{List, [], _∷_}
 use mathlib.Core.Bool.{Bool, true, false, _&&_}
+use mathlib.Core.List.{List, [], _∷_}
 use mathlib.Core.Logic.{inl, inr}
 use lib.Dec.{leb, ltb}
 use lib.ListN.{length}
@@ -22,9 +22,9 @@ use Rattle.rules.specs.Names.{same}
 use Rattle.rules.specs.Counting.{Event}
 use Rattle.rules.specs.Tables.{Counts, Room, no-rows, some-row, need, fresh, row-of, edge-of, need-name, need-edge, grow-edge, grow-name, hold, enter, fill, declare}
 use Rattle.rules.proofs.SameNames.{same-refl}
-use Rattle.laws.proofs.OrderRows.{with-row, with-change, change-with, with-row-there, with-row-new}
-use Rattle.laws.proofs.OrderTables.{new-edge, adds-edge, adds, held-by, all-held, entered, filled}
-use Rattle.laws.proofs.OrderEdges.{edge-refl}
+use Rattle.laws.proofs.TablesRows.{with-row, with-change, change-with, with-row-there, with-row-new}
+use Rattle.laws.proofs.TablesFilled.{new-edge, adds-edge, adds, held-by, all-held, entered, filled}
+use Rattle.laws.proofs.TablesEdges.{edge-refl}
 
 -- the result a if the test passes, else a refusal
 abbrev pub Bounded : {A : Type 0} → Bool → A → Outcome A → Type 0
@@ -202,3 +202,7 @@ module _ (space : Room) where
 
   pub fill-bounded : (es : List Event) → Bounded (fits space (filled es no-rows)) (filled es no-rows) (fill space es no-rows)
   fill-bounded es = fill-onward es no-rows (and-from (leb 0 (space .names)) (leb 0 (space .edges)) (le-leb 0 (space .names) (omega arith)) (le-leb 0 (space .edges) (omega arith)))
+
+  -- what a filling with room gives is the filling without bound
+  pub fill-filled : (es : List Event) (c : Counts) → fill space es no-rows ≡ fine c → c ≡ filled es no-rows
+  fill-filled es c e = subst (Bounded (fits space (filled es no-rows)) (filled es no-rows)) e (fill-bounded es) .1

@@ -4,18 +4,18 @@
 --   Items                    items that are no expressions, each with its own number
 --   Slot                     a record with this number, or nothing
 --   remains-at               what stays of an item is made of the item alone
---   remains-items            the items that are left are such items again
 use Prim.Native.Nat.{ℕ}
 use mathlib.Core.Path.{_≡_, refl, sym, ap, _∙_, subst}
 use mathlib.Core.Bool.{Bool, true, false, _&&_, _||_}
 use lib.Dec.{eqb}
-use Rattle.std.proofs.shelf.Tests.{eqb-true, eq-eqb, ne-eqb, true≢false, and-left}
+use Rattle.std.proofs.shelf.Tests.{eqb-true, eq-eqb, both-ways}
 use Rattle.rules.specs.Tree.{Head, Chain, if_then_else_, _is_, isEnd, append, unnumbered}
 use Rattle.rules.specs.Tree.Chain.{end, link}
 use Rattle.rules.specs.Kinds.{expression, empty-statement, block, for-statement, assignment, call-expression}
-use Rattle.rules.specs.Removal.{By, Place, Left, Verdict, place-inside, entered, swept, fn-goes, class-goes, declarator-goes, specifier-goes, import-emptied, var-emptied, var-restates, assignment-yields, call-unwraps, has-list, verdict, done, treated, treat}
+use Rattle.rules.specs.Removal.{By, Place, Left, Verdict, place-inside, entered, swept, verdict, done, treated, treat}
 use Rattle.rules.specs.Removal.Verdict.{stays, sweeps, empties, unlinks, restates, yields, unwraps}
 use Rattle.rules.specs.Law.{item-at}
+use Rattle.laws.proofs.Verdicts.{Means, means}
 use Rattle.laws.proofs.OrderRemoval.{item-left, remains, remains-link, remains-unnumbered}
 
 -- items that are no expressions, each with its own number
@@ -28,53 +28,22 @@ data Slot (n : ℕ) : Chain → Type 0 where
   gone : Slot n end
   there : {h : Head} {cs : Chain} → h .number ≡ n → expression (h .kind) ≡ false → Slot n (link h cs end)
 
--- VERDICTS
+-- an item is no Assignment and no Call
+no-item : (h : Head) (k : ℕ) → expression (h .kind) ≡ false → h .kind ≡ k → expression k ≡ true → ⊥
+no-item h k w e x = both-ways (expression k) (subst (λ (j : ℕ). expression j ≡ false) e w) x
 
--- a verdict that leaves a record's number in its place, or nothing
-abbrev Stands : Verdict → Type 0
-Stands stays = Unit {0}
-Stands sweeps = Unit {0}
-Stands (empties names) = Unit {0}
-Stands (unlinks name) = Unit {0}
-Stands restates = Unit {0}
-Stands (yields name) = ⊥
-Stands unwraps = ⊥
-
-either : (b : Bool) (x y : Verdict) → Stands x → Stands y → Stands (if b then x else y)
-either true x y p q = p
-either false x y p q = q
-
-unless : (b : Bool) (x y : Verdict) → b ≡ false → Stands y → Stands (if b then x else y)
-unless true x y e s = absurd (true≢false e)
-unless false x y e s = s
-
-never : (k j : ℕ) → expression k ≡ false → expression j ≡ true → eqb k j ≡ false
-never k j p q = ne-eqb k j (λ s. true≢false (sym q ∙ (ap expression (sym s) ∙ p)))
-
-verdict-stands : (by : By) (p : Place) (h : Head) (found c : Chain) → expression (h .kind) ≡ false → Stands (verdict by p h found c)
-verdict-stands by p h found c w =
-  either (fn-goes by p h) _ _ tt
-  (either (class-goes by p h c) _ _ tt
-  (either (declarator-goes by p h c) _ _ tt
-  (either (specifier-goes by p h) _ _ tt
-  (either (import-emptied by h found c) _ _ tt
-  (either (var-emptied h c) _ _ tt
-  (either (var-restates by p h c) _ _ tt
-  (unless (assignment-yields by p h c) _ _ (and-left (h is assignment) _ (never (h .kind) assignment w refl))
-  (unless (call-unwraps h c) _ _ (and-left (h is call-expression) _ (never (h .kind) call-expression w refl))
-  (either (has-list h) _ _ tt tt)))))))))
-
-done-slot : (v : Verdict) (h : Head) (inner : Left) → expression (h .kind) ≡ false → Stands v → Slot (h .number) (done v h inner .chain)
-done-slot stays h inner w s = there refl w
-done-slot sweeps h inner w s = there refl w
-done-slot (empties names) h inner w s = there refl refl
-done-slot (unlinks name) h inner w s = gone
-done-slot restates h inner w s = there refl refl
-done-slot (yields name) h inner w s = absurd s
-done-slot unwraps h inner w s = absurd s
+done-slot : (by : By) (p : Place) (h : Head) (found : Chain) (inner : Left) → expression (h .kind) ≡ false → (v : Verdict) → Means by p h found (inner .chain) v
+  → Slot (h .number) (done v h inner .chain)
+done-slot by p h found inner w stays m = there refl w
+done-slot by p h found inner w sweeps m = there refl w
+done-slot by p h found inner w (empties names) m = there refl refl
+done-slot by p h found inner w (unlinks name) m = gone
+done-slot by p h found inner w restates m = there refl refl
+done-slot by p h found inner w (yields name) m = absurd (no-item h assignment w (m .kind) refl)
+done-slot by p h found inner w unwraps m = absurd (no-item h call-expression w (m .kind) refl)
 
 treated-slot : (into : Bool) (by : By) (p : Place) (h : Head) (found : Chain) (inner : Left) → expression (h .kind) ≡ false → Slot (h .number) (treated into by p h found inner .chain)
-treated-slot true by p h found inner w = done-slot (verdict by p h found (inner .chain)) h inner w (verdict-stands by p h found (inner .chain) w)
+treated-slot true by p h found inner w = done-slot by p h found inner w (verdict by p h found (inner .chain)) (means by p h found (inner .chain))
 treated-slot false by p h found inner w = there refl w
 
 -- SLOTS
@@ -95,10 +64,6 @@ slot-here n r (there {h = h} {cs = cs} q w) z = ap (λ (b : Bool). if b then unn
 slot-past : (n a : ℕ) {x : Chain} (r : Chain) → eqb a n ≡ false → Slot n x → item-at a (append x r) ≡ item-at a r
 slot-past n a r z gone = refl
 slot-past n a r z (there {h = h} {cs = cs} q w) = ap (λ (b : Bool). if b then unnumbered (link h cs end) else item-at a r) (ap (eqb a) q ∙ z)
-
-slot-items : (n : ℕ) {x : Chain} (r : Chain) → Slot n x → item-at n r ≡ end → Items r → Items (append x r)
-slot-items n r gone z i = i
-slot-items n r (there {h = h} q w) z i = (w, ap (λ (m : ℕ). item-at m r) q ∙ z, i)
 
 append-end : (c : Chain) → append c end ≡ c
 append-end end = refl
@@ -121,8 +86,3 @@ module _ (by : By) (unseen : (c : Chain) → (by .config .acts) (unnumbered c) �
   pub remains-at : (a : ℕ) (cs : Chain) → Items cs → item-at a (remains by p cs) ≡ remains by p (item-at a cs)
   remains-at a end i = refl
   remains-at a (link h cs rest) i = ap (item-at a) (remains-link by p quiet h cs rest) ∙ step-at a h cs rest (i .0) (i .1) (remains-at a rest (i .2)) (eqb a (h .number)) refl
-
-  pub remains-items : (cs : Chain) → Items cs → Items (remains by p cs)
-  remains-items end i = i
-  remains-items (link h cs rest) i = subst Items (sym (remains-link by p quiet h cs rest))
-    (slot-items (h .number) (remains by p rest) (slot h cs (i .0)) (remains-at (h .number) rest (i .2) ∙ ap (remains by p) (i .1)) (remains-items rest (i .2)))
