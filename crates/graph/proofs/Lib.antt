@@ -3,5 +3,6 @@ mod Entering
 mod Following
 mod Closing
 mod Linking
+mod Reading
 mod Finishing
 mod Stepping

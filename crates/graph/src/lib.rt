@@ -14,6 +14,8 @@ mod search;
 pub use edges::Edges;
 pub use edges::Pairs;
 pub use edges::PairsEdges;
+pub use edges::Rows;
+pub use edges::RowsEdges;
 pub use fault::GraphFault;
 use label::label;
 
