@@ -1,0 +1,4 @@
+pub mod Graphs
+pub mod Refusals
+pub mod Rows
+pub mod Searching
