@@ -1,0 +1,2 @@
+pub mod Living
+pub mod Faults
