@@ -1,1 +1,3 @@
 pub mod Cutting
+pub mod Holding
+pub mod Adding

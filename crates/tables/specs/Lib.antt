@@ -1,2 +1,4 @@
 pub mod Living
+pub mod Held
+pub mod Inserting
 pub mod Faults

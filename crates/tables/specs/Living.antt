@@ -68,3 +68,11 @@ put-row at row words = take at words ++ (row ++ drop (length row) (drop at words
 -- a table with a row after its last, if a row is free
 abbrev pub added : (width : ℕ) → (row words : List ℕ) → List ℕ
 added width row words = if free width words then put-row (used width words * width) row words else words
+
+-- a row is free: its number, and where it begins
+pub record Free (width : ℕ) (words : List ℕ) (number begins : ℕ) : Type 0 where
+  pub some : free width words ≡ true
+  pub next : number ≡ used width words + 1
+  pub is-there : there width words number ≡ true
+  pub place : begins ≡ used width words * width
+  pub within : begins + width ≤ length words

@@ -1,12 +1,15 @@
 ghost use mathlib.Core.Path.{_≡_};
 ghost use mathlib.Core.Bool.{true, false};
+ghost use mathlib.Core.List.{[]};
 ghost use Prim.Native.Nat.{ℕ, _+_, _*_, _/_, _≤_, _<_};
 ghost use lib.Dec.{ltb};
 ghost use lib.ListN.{length};
 ghost use Rattle.std.specs.Options.{Cases};
-ghost use Rattle.std.specs.Results.{Cases as Either};
+ghost use Rattle.std.specs.Vec.{made, refused};
 ghost use Rattle.rules.specs.Calls.{zeroed};
-ghost use Rattle.tables.specs.Living.{rows, used, free, there, start-of, keyed, first-row, added};
+ghost use Rattle.tables.specs.Living.{rows, used, free, there, start-of, keyed, first-row, added, Free};
+ghost use Rattle.tables.specs.Held.{Holds};
+ghost use Rattle.tables.specs.Inserting.{Comes-alive, Found-there, Others-stay, Holds-more};
 use crate::fault::TableFault;
 use crate::key::LawfulEq;
 use crate::row::Row;
@@ -59,14 +62,33 @@ pub fn row_start<R: Row>(table: &[u32], number: usize) -> Option<usize>
     Some((number - 1) * width)
 }
 
-/// Puts a new row with the key behind the last row, and gives its number.
-pub fn insert<R: Row>(table: &mut [u32], key: R::Key, at: u32) -> Result<usize, TableFault>
-    ensures words { λ _. ⌜ now (table .exit) ≡ added wide (fresh key) (now (table .entry)) ⌝ }
-    ensures row { λ r. ⌜ Either r (λ n. (n ≡ used wide (now (table .entry)) + 1) × (there wide (now (table .entry)) n ≡ true)) (λ _. Unit {0}) ⌝ }
-    ensures refused { λ r. ⌜ Either r (λ _. free wide (now (table .entry)) ≡ true) (λ e. (e ≡ full at) × (free wide (now (table .entry)) ≡ false)) ⌝ }
+/// The first free row: its number, and where it begins.
+#[derive(Clone, Copy)]
+struct FreeRow {
+    number: usize,
+    start: usize,
+}
+
+/// The first free row, if a whole one is free.
+fn free_row<R: Row>(table: &[u32]) -> Option<FreeRow>
+    ensures { λ r. ⌜ Cases r (free wide (now (table .entry)) ≡ false) (λ f. Free wide (now (table .entry)) (f .number) (f .start)) ⌝ }
 {
     let number = row_count::<R>(table) + 1;
-    let Some(start) = row_start::<R>(table, number) else {
+    let start = row_start::<R>(table, number)?;
+    Some(FreeRow { number, start })
+}
+
+/// Puts a new row with the key behind the last row, and gives its number. `at` is the record that needs it.
+pub fn insert<R: Row>(table: &mut [u32], key: R::Key, at: u32) -> Result<usize, TableFault>
+    ensures words { λ _. ⌜ now (table .exit) ≡ added wide (fresh key) (now (table .entry)) ⌝ }
+    ensures row { λ r. ⌜ made r (λ n. (n ≡ used wide (now (table .entry)) + 1) × (free wide (now (table .entry)) ≡ true) × (there wide (now (table .entry)) n ≡ true)) ⌝ }
+    ensures refused { λ r. ⌜ refused r (λ e. (e ≡ full at) × (free wide (now (table .entry)) ≡ false)) ⌝ }
+    ensures alive { λ _. ⌜ Comes-alive wide (fresh key) (now (table .entry)) (now (table .exit)) ⌝ }
+    ensures found { λ _. ⌜ Found-there (keyed (Key·LawfulEq .same) keyOf key) wide (fresh key) (now (table .entry)) (now (table .exit)) ⌝ }
+    ensures others { λ _. ⌜ Others-stay (Key·LawfulEq .same) keyOf key wide (now (table .entry)) (now (table .exit)) ⌝ }
+    ensures held { λ _. ⌜ Holds-more wide (fresh key) (now (table .entry)) (now (table .exit)) ⌝ }
+{
+    let Some(FreeRow { number, start }) = free_row::<R>(table) else {
         return Err(R::fault(at));
     };
     R::write(&mut table[start..start + R::stride()], key);
@@ -76,6 +98,7 @@ pub fn insert<R: Row>(table: &mut [u32], key: R::Key, at: u32) -> Result<usize, 
 /// Makes every whole row 0. The words past the last whole row stay.
 pub fn zero_rows<R: Row>(table: &mut [u32])
     ensures words { λ _. ⌜ now (table .exit) ≡ zeroed wide (now (table .entry)) ⌝ }
+    ensures held { λ _. ⌜ Holds wide (λ r. r) (now (table .entry)) [] (now (table .exit)) ⌝ }
 {
     let width = R::stride();
     let whole = table.len() / width * width;
