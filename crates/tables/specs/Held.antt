@@ -6,12 +6,12 @@
 --   changed          a table, the words of one row changed
 use Prim.Native.Nat.{ℕ, _+_, _-_, _*_, _/_, _≤_, _<_}
 use mathlib.Core.Path.{_≡_}
-use mathlib.Core.List.{List, [], _∷_}
+use mathlib.Core.List.{List, [], _∷_, _++_}
 use lib.ListN.{length, getD, take, drop}
 use Rattle.std.specs.Joined.{joined}
 use Rattle.rules.specs.Tree.{if_then_else_}
 use Rattle.rules.specs.Tables.{table}
-use Rattle.tables.specs.Living.{there, start-of, put-row}
+use Rattle.tables.specs.Living.{there, start-of}
 
 -- each row has as many words as the width says, and does not begin with 0
 abbrev pub Proper : {Row : Type 0} → (width : ℕ) → (Row → List ℕ) → List Row → Type 0
@@ -27,6 +27,5 @@ pub record Holds {Row : Type 0} (width : ℕ) (in-words : Row → List ℕ) (fou
 -- the words with those of one row changed, if it is there
 abbrev pub changed : (width number : ℕ) → (List ℕ → List ℕ) → List ℕ → List ℕ
 changed width number to words =
-  if there width words number
-  then put-row (start-of width number) (to (take width (drop (start-of width number) words))) words
-  else words
+  let at = start-of width number in
+  if there width words number then take at words ++ (to (take width (drop at words)) ++ drop width (drop at words)) else words

@@ -1,3 +1,4 @@
+pub mod counts;
 pub mod declared_row;
 pub mod edge_row;
 pub mod fault;
@@ -7,6 +8,7 @@ pub mod row;
 pub mod rows;
 pub mod table;
 
+pub use counts::VarInfo;
 pub use declared_row::Declared;
 pub use declared_row::DeclaredRow;
 pub use edge_row::Edges;
