@@ -17,7 +17,7 @@ use Rattle.tables.specs.Held.{Proper, Holds}
 use Rattle.tables.proofs.Cutting.{rows-none, rows-cons}
 
 -- so many whole rows of zeros, then a tail
-abbrev zeros : (w n : ℕ) → List ℕ → List ℕ
+abbrev pub zeros : (w n : ℕ) → List ℕ → List ℕ
 zeros w n tail = replicate (n * w) 0 ++ tail
 
 -- they have no rows
@@ -68,7 +68,7 @@ module _ {Row : Type 0} (w : ℕ) (in-words : Row → List ℕ) (some : 0 < w) w
   proper-push (x ∷ rs) r p l f = (p .0, p .1, proper-push rs r (p .2) l f)
 
   -- the form of a table's words
-  table-form : (found : List ℕ) (rs : List Row) → Proper w in-words rs
+  pub table-form : (found : List ℕ) (rs : List Row) → Proper w in-words rs
     → table w (joined in-words rs) found ≡ joined in-words rs ++ zeros w (length found / w - length rs) (drop (length found / w * w) found)
   table-form found rs p =
     let whole = length found / w in
@@ -80,7 +80,7 @@ module _ {Row : Type 0} (w : ℕ) (in-words : Row → List ℕ) (some : 0 < w) w
 
   module _ (found : List ℕ) (rs : List Row) (words : List ℕ) (h : Holds w in-words found rs words) where
     -- the words of a table that holds rows
-    holds-form : words ≡ joined in-words rs ++ zeros w (length found / w - length rs) (drop (length found / w * w) found)
+    pub holds-form : words ≡ joined in-words rs ++ zeros w (length found / w - length rs) (drop (length found / w * w) found)
     holds-form = h .is ∙ table-form found rs (h .proper)
 
     -- its rows are these

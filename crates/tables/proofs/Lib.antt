@@ -1,3 +1,4 @@
 pub mod Cutting
 pub mod Holding
 pub mod Adding
+pub mod Changing

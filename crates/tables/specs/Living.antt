@@ -3,6 +3,7 @@
 --   cut, before-zero, rows      the whole rows of words; rows up to the first that begins with 0; the rows of a table
 --   used, free, behind          how many rows there are; a whole row is free behind them; the words behind that one
 --   keyed, first-row            a row has a key; the number of the first row that passes, from 1
+--   nth, change-nth             a row by its place, from 0; that row changed
 --   put-row, added              words with a row in the place of others; a table with a row after its last
 use Prim.Native.Nat.{ℕ, zero, suc, _+_, _-_, _*_, _/_, _≤_, _<_}
 use mathlib.Core.Path.{_≡_}
@@ -60,6 +61,18 @@ first-from passes n (r ∷ rs) = if passes r then Some (n + 1) else first-from p
 -- the same from 1
 abbrev pub first-row : {Row : Type 0} → (Row → Bool) → List Row → Option ℕ
 first-row passes rows = first-from passes 0 rows
+
+-- the row of this place, from 0
+abbrev pub nth : {Row : Type 0} → (place : ℕ) → List Row → Option Row
+nth place [] = None
+nth zero (r ∷ rs) = Some r
+nth (suc place) (r ∷ rs) = nth place rs
+
+-- that row changed
+abbrev pub change-nth : {Row : Type 0} → (place : ℕ) → (Row → Row) → List Row → List Row
+change-nth place to [] = []
+change-nth zero to (r ∷ rs) = to r ∷ rs
+change-nth (suc place) to (r ∷ rs) = r ∷ change-nth place to rs
 
 -- words with a row put in the place of those from `at` on
 abbrev pub put-row : (at : ℕ) → (row words : List ℕ) → List ℕ
