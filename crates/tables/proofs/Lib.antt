@@ -2,3 +2,4 @@ pub mod Cutting
 pub mod Holding
 pub mod Adding
 pub mod Changing
+pub mod Numbering
