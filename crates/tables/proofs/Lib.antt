@@ -3,3 +3,4 @@ pub mod Holding
 pub mod Adding
 pub mod Changing
 pub mod Numbering
+pub mod Matched

@@ -1,3 +1,4 @@
+pub mod book;
 pub mod counts;
 pub mod declared_row;
 pub mod edge_row;
