@@ -9,7 +9,7 @@ ghost use Rattle.std.specs.Vec.{made, refused};
 ghost use Rattle.rules.specs.Calls.{zeroed};
 ghost use Rattle.tables.specs.Living.{rows, used, free, there, start-of, keyed, first-row, added, Free};
 ghost use Rattle.tables.specs.Held.{Holds};
-ghost use Rattle.tables.specs.Inserting.{Comes-alive, Found-there, Others-stay, Holds-more};
+ghost use Rattle.tables.specs.Inserting.{Comes-alive, Found-there, Others-stay, Holds-more, answered, placed};
 use crate::fault::TableFault;
 use crate::key::LawfulEq;
 use crate::row::Row;
@@ -93,6 +93,18 @@ pub fn insert<R: Row>(table: &mut [u32], key: R::Key, at: u32) -> Result<usize, 
     };
     R::write(&mut table[start..start + R::stride()], key);
     Ok(number)
+}
+
+/// The number of the row with the key, which is put behind the last row if it is not there.
+pub fn need<R: Row>(table: &mut [u32], key: R::Key, at: u32) -> Result<usize, TableFault>
+    ensures row { λ r. ⌜ r ≡ answered wide (full at) (now (table .entry)) (first-row (keyed (Key·LawfulEq .same) keyOf key) (rows wide (now (table .entry)))) ⌝ }
+    ensures there { λ r. ⌜ made r (λ n. there wide (now (table .exit)) n ≡ true) ⌝ }
+    ensures words { λ _. ⌜ now (table .exit) ≡ placed wide (fresh key) (now (table .entry)) (first-row (keyed (Key·LawfulEq .same) keyOf key) (rows wide (now (table .entry)))) ⌝ }
+{
+    match find::<R>(table, &key) {
+        Some(number) => Ok(number),
+        None => insert::<R>(table, key, at),
+    }
 }
 
 /// Makes every whole row 0. The words past the last whole row stay.
