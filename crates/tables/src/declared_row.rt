@@ -1,8 +1,8 @@
 ghost use mathlib.Core.Path.{_≡_};
 ghost use mathlib.Core.Bool.{true};
 ghost use mathlib.Core.List.{List, [], _∷_};
-ghost use Prim.Native.Nat.{ℕ, _<_};
-ghost use lib.ListN.{getD};
+ghost use Prim.Native.Nat.{ℕ, _≤_, _<_};
+ghost use lib.ListN.{length, getD};
 ghost use Rattle.std.specs.Vec.{made};
 ghost use Rattle.rules.specs.Refusals.{declared-full};
 ghost use Rattle.rules.specs.Tree.{Name};
@@ -55,7 +55,7 @@ impl Declared {
     /// The row of a name, put behind the last row if it is not there. `at` is the record that bears the name.
     pub fn need(declared: &mut [u32], id: Id, at: u32) -> Result<usize, TableFault>
         ensures row { λ r. ⌜ r ≡ answered declared-width (table-full at) (now (declared .entry)) (first-row (id-keyed id) (rows declared-width (now (declared .entry)))) ⌝ }
-        ensures there { λ r. ⌜ made r (λ n. there declared-width (now (declared .exit)) n ≡ true) ⌝ }
+        ensures there { λ r. ⌜ made r (λ n. (there declared-width (now (declared .exit)) n ≡ true) × (n ≤ length (now (declared .exit)))) ⌝ }
         ensures words { λ _. ⌜ now (declared .exit) ≡ placed declared-width (id-words (name-of id)) (now (declared .entry)) (first-row (id-keyed id) (rows declared-width (now (declared .entry)))) ⌝ }
         ensures book { λ r. ⌜ ((found : List ℕ) (ns : List Name) → 0 < id .symbol → Declared-held found ns (now (declared .entry)) → Row-needed (same (name-of id)) (name-of id) declared-width id-words found declared-full at ns (now (declared .entry)) (now (declared .exit)) r) ⌝ }
     {

@@ -1,8 +1,8 @@
 ghost use mathlib.Core.Path.{_≡_};
 ghost use mathlib.Core.Bool.{true, false};
 ghost use mathlib.Core.List.{List, [], _∷_};
-ghost use Prim.Native.Nat.{ℕ};
-ghost use lib.ListN.{getD};
+ghost use Prim.Native.Nat.{ℕ, _≤_};
+ghost use lib.ListN.{length, getD};
 ghost use Rattle.std.specs.Options.{Cases};
 ghost use Rattle.std.specs.Vec.{made};
 ghost use Rattle.rules.specs.Refusals.{edges-full};
@@ -61,7 +61,7 @@ impl Edges {
     /// The row of an edge, put behind the last row if it is not there. `at` is the record that needs it.
     pub fn need(edges: &mut [u32], edge: Edge, at: u32) -> Result<usize, TableFault>
         ensures row { λ r. ⌜ r ≡ answered edges-width (table-full at) (now (edges .entry)) (first-row (ends-keyed edge) (rows edges-width (now (edges .entry)))) ⌝ }
-        ensures there { λ r. ⌜ made r (λ n. there edges-width (now (edges .exit)) n ≡ true) ⌝ }
+        ensures there { λ r. ⌜ made r (λ n. (there edges-width (now (edges .exit)) n ≡ true) × (n ≤ length (now (edges .exit)))) ⌝ }
         ensures words { λ _. ⌜ now (edges .exit) ≡ placed edges-width (ends-words edge) (now (edges .entry)) (first-row (ends-keyed edge) (rows edges-width (now (edges .entry)))) ⌝ }
         ensures book { λ r. ⌜ ((names : List NameRow) (found : List ℕ) (es : List EdgeRow) (a b : Name) → Known names es → Present names a → Present names b → edge .from ≡ row-number a names → edge .to ≡ row-number b names → Edges-held names found es (now (edges .entry)) → Row-needed (edge-of a b) (new-edge a b) edges-width (edge-words names) found edges-full at es (now (edges .entry)) (now (edges .exit)) r) ⌝ }
     {

@@ -1,9 +1,9 @@
 ghost use mathlib.Core.Path.{_≡_};
 ghost use mathlib.Core.Bool.{true, false, _&&_, not};
 ghost use mathlib.Core.List.{List, [], _∷_};
-ghost use Prim.Native.Nat.{ℕ, _<_};
+ghost use Prim.Native.Nat.{ℕ, _≤_, _<_};
 ghost use lib.Dec.{eqb};
-ghost use lib.ListN.{getD};
+ghost use lib.ListN.{length, getD};
 ghost use Rattle.std.specs.Options.{Cases};
 ghost use Rattle.std.specs.Vec.{made};
 ghost use Rattle.rules.specs.Refusals.{names-full};
@@ -67,7 +67,7 @@ impl Names {
     /// The row of a name, put behind the last row if it is not there. `at` is the record that needs it.
     pub fn need(names: &mut [u32], id: Id, at: u32) -> Result<usize, TableFault>
         ensures row { λ r. ⌜ r ≡ answered names-width (table-full at) (now (names .entry)) (first-row (id-keyed id) (rows names-width (now (names .entry)))) ⌝ }
-        ensures there { λ r. ⌜ made r (λ n. there names-width (now (names .exit)) n ≡ true) ⌝ }
+        ensures there { λ r. ⌜ made r (λ n. (there names-width (now (names .exit)) n ≡ true) × (n ≤ length (now (names .exit)))) ⌝ }
         ensures words { λ _. ⌜ now (names .exit) ≡ placed names-width (name-words (fresh (name-of id))) (now (names .entry)) (first-row (id-keyed id) (rows names-width (now (names .entry)))) ⌝ }
         ensures book { λ r. ⌜ ((found : List ℕ) (rs : List NameRow) → 0 < id .symbol → Names-held found rs (now (names .entry)) → Row-needed (row-of (name-of id)) (fresh (name-of id)) names-width name-words found names-full at rs (now (names .entry)) (now (names .exit)) r) ⌝ }
     {
