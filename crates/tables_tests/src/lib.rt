@@ -1,0 +1,4 @@
+#[cfg(test)]
+mod carried;
+#[cfg(test)]
+mod tests;
