@@ -1,1 +1,4 @@
 mod Frames
+pub mod Moves
+mod Lifts
+mod Turns
