@@ -1,4 +1,6 @@
 mod Frames
 pub mod Moves
 mod Lifts
-mod Turns
+pub mod Turns
+mod Titles
+mod Joins

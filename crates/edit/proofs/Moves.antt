@@ -2,8 +2,8 @@
 -- in steps is made; and a loop along a chain keeps that whatever finishes what is left has finished the whole.
 --
 --   again, then, same                  the words after are linked again; two steps; none
---   child-at, rest-at, after-at        the slots of a record, and the one after a piece
---   beneath, along, past               what is made there, seen from the slot of the record
+--   child-at, child-by, rest-at, after-at        the slots of a record, and the one after a piece
+--   beneath, beneath-by, along, past               what is made there, seen from the slot of the record
 --   part-onto                          a piece in the place of the record that it was below
 --   Going, started, turn, ended        the loop
 use Prim.Native.Nat.{ℕ, _+_, _-_, _*_, _/_, _≤_, _<_}
@@ -73,6 +73,10 @@ module _ (w : List ℕ) (i : ℕ) (h : Head) (ch rest : Chain) (at : Linked w i 
     apart = at .apart .4;
     free = λ j. at .apart .1 (subst (λ (x : ℕ). Numbers x rest) next-owned j) }
 
+  -- the children, at a slot that is theirs
+  pub child-by : (s : ℕ) → s ≡ first-slot (getD w i 0) → Linked w s ch
+  child-by s e = subst (λ (j : ℕ). Linked w j ch) (sym e) child-at
+
   pub beneath : (v : List ℕ) (d : Chain) → Made w v (first-slot (getD w i 0)) ch d → Made w v i (link h ch rest) (link h d rest)
   beneath v d r =
     let n : ℕ = getD w i 0 in
@@ -134,6 +138,11 @@ module _ (w : List ℕ) (i : ℕ) (h : Head) (ch rest : Chain) (at : Linked w i 
         apart = (at .apart .0, λ k. at .apart .1 (r .part .numbers (h .number) k), λ x k l. at .apart .2 x k (r .part .numbers x l), at .apart .3, r .part .apart);
         numbers = λ x k. elim k [ inl z ↦ inl z | inr l ↦ elim l [ inl m ↦ inr (inl m) | inr m ↦ inr (inr (r .part .numbers x m)) ] ] };
       others = λ j ne out. r .others j (λ z. out (inl (ap owner z ∙ next-owned))) (λ k. out (inr (inr k))) }
+
+-- the same, by a slot that is the children's
+pub beneath-by : (w v : List ℕ) (i s : ℕ) (h : Head) (ch rest d : Chain) → s ≡ first-slot (getD w i 0) → Linked w i (link h ch rest) →
+  Made w v s ch d → Made w v i (link h ch rest) (link h d rest)
+beneath-by w v i s h ch rest d e at r = beneath w i h ch rest at v d (subst (λ (j : ℕ). Made w v j ch d) e r)
 
 pub after-at : (w : List ℕ) (i : ℕ) (p rest : Chain) → Linked w i (onto p rest) → Linked w (slot-after i p) rest
 after-at w i end rest at = at

@@ -6,17 +6,19 @@
 --   Made                              the words, with a chain in the place of the one that a slot links to
 --   onto, slot-after                  what follows, after one record or none; its slot
 --   Lift, Step                        a record that gives way to one below it, or to none; what that comes to
---   Spare, Wrapped                    a record that stands nowhere in a chain; the chain put under it
+--   nothing                           what a list drops
+--   wrapped                           a chain put under a plain expression
 use Prim.Native.Nat.{ℕ, _+_, _-_, _*_, _/_, _≤_, _<_}
 use mathlib.Core.Path.{_≡_}
 use mathlib.Core.Bool.{Bool, true, false, _&&_, _||_}
 use mathlib.Core.List.{List}
-use lib.ListN.{length, getD}
+use lib.ListN.{length, getD, set}
 use Rattle.rules.specs.Tree.{Head, Chain, _is_, isEnd, below, after, alone, append}
 use Rattle.rules.specs.Tree.Chain.{end, link}
-use Rattle.rules.specs.Kinds.{within, empty-statement, block}
-use Rattle.rules.specs.Words.{Holds, records}
+use Rattle.rules.specs.Kinds.{empty-statement, block, plain-expression}
+use Rattle.rules.specs.Words.{Holds}
 use Rattle.rules.specs.Held.{Numbers, Apart}
+use Rattle.records.specs.Writes.{with-word, turned}
 
 -- the word of record n that links to its first child
 abbrev pub first-slot : ℕ → ℕ
@@ -75,9 +77,6 @@ abbrev pub nothing : Chain → Bool
 nothing end = false
 nothing (link h children rest) = h is empty-statement || (h is block && isEnd children)
 
--- record d is there, and is neither in the chain that the slot links to nor the slot's own
-pub record Spare (words : List ℕ) (slot d : ℕ) (c : Chain) : Type 0 where
-  pub at : Linked words slot c
-  pub there : within 1 (records words) d ≡ true
-  pub out : Numbers d c → ⊥
-  pub free : owner slot ≡ d → ⊥
+-- the words, with record d a plain expression over the chain that the slot links to, and the slot linking to d
+abbrev pub wrapped : List ℕ → (slot d : ℕ) → List ℕ
+wrapped words slot d = set (turned (with-word (with-word words d 4 (getD words slot 0)) d 5 0) d plain-expression) slot d

@@ -1,8 +1,10 @@
-ghost use Rattle.rules.specs.Tree.{Chain};
+ghost use Rattle.rules.specs.Tree.{Head, Chain};
+ghost use Rattle.rules.specs.Tree.Chain.{link};
 ghost use Rattle.rules.specs.Removal.{swept, values};
 ghost use Rattle.edit.specs.Slots.{Linked, Made};
 use crate::lifting::lift;
 use crate::slots::first_of;
+use crate::slots::first_slot;
 use crate::slots::is_nothing;
 use crate::slots::next_of;
 use crate::slots::next_slot;
@@ -20,6 +22,15 @@ pub fn sweep(words: &mut [u32], slot: usize)
             at = next_slot(words[at]);
         }
     }
+}
+
+/// Unlinks each Empty and each childless Block of the children of the record that the slot links to.
+pub fn sweep_children(words: &mut [u32], slot: usize)
+    requires { ⌜ ((h : Head) × (children : Chain) × (rest : Chain) × Linked (now words) slot (link h children rest)) ⌝ }
+    ensures { λ _. ⌜ ((h : Head) (children rest : Chain) → Linked (now (words .entry)) slot (link h children rest) → Made (now (words .entry)) (now (words .exit)) slot (link h children rest) (link h (swept children) rest)) ⌝ }
+{
+    let n = words[slot];
+    sweep(words, first_slot(n));
 }
 
 /// Puts its value in the place of each Declarator of the chain that the slot links to; one without a value is unlinked.
