@@ -1,6 +1,6 @@
-mod Frames
+pub mod Frames
 pub mod Moves
-mod Lifts
+pub mod Lifts
 pub mod Turns
 mod Titles
 mod Joins
