@@ -1,0 +1,3 @@
+pub mod look;
+pub mod perform;
+pub mod place;
