@@ -1,0 +1,7 @@
+mod Leading
+mod Entering
+mod Following
+mod Closing
+mod Linking
+mod Finishing
+mod Stepping
