@@ -1,1 +1,4 @@
 pub mod Taking
+pub mod Naming
+pub mod Ruling
+pub mod Marks

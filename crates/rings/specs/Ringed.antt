@@ -4,14 +4,16 @@
 --   passes                 an edge between two names of one closed ring
 --   taken, lessened        a row, and all rows, less the weights of some edges that pass
 --   Ready                  words that hold the rows of a count
+--   Discounted-by-edges    one pass over the edges comes to the book's `discount`
 use Prim.Native.Nat.{ℕ, _^_, _<_}
 use mathlib.Core.Path.{_≡_}
 use mathlib.Core.Bool.{Bool, true, false, _&&_, not}
-use mathlib.Core.List.{List, [], _∷_, map}
+use mathlib.Core.List.{List, [], _∷_, _++_, map}
+use Rattle.rules.specs.Tree.{if_then_else_}
 use Rattle.rules.specs.Names.{same, among}
-use Rattle.rules.specs.Tables.{NameRow, EdgeRow, Counts, some-row, row-of}
-use Rattle.rules.specs.Rings.{component, closed, minus, total}
-use Rattle.tables.specs.Matching.{Names-held, Edges-held, Known}
+use Rattle.rules.specs.Tables.{NameRow, EdgeRow, Counts, some-row, change, row-of}
+use Rattle.rules.specs.Rings.{component, closed, minus, total, discount}
+use Rattle.tables.specs.Matching.{Names-held, Edges-held, Known, shrunk}
 
 -- no two rows have one name
 abbrev pub Distinct : List NameRow → Type 0
@@ -47,3 +49,12 @@ pub record Ready (c : Counts) (found found′ names edges : List ℕ) : Type 0 w
   pub known : Known (c .names) (c .edges)
   pub names-held : Names-held found (c .names) names
   pub edges-held : Edges-held (c .names) found′ (c .edges) edges
+
+-- the rows less the weights of no edge are the rows, one more edge that passes takes its weights from the row of the name that it leads to,
+-- and less the weights of all edges that pass they are the book's
+abbrev pub Discounted-by-edges : Type 0
+Discounted-by-edges = (c : Counts) → Distinct (c .names) → Small (c .names) →
+  (lessened (passes c) [] (c .names) ≡ c .names)
+  × ((es : List EdgeRow) (e : EdgeRow) → lessened (passes c) (es ++ (e ∷ [])) (c .names)
+    ≡ (if passes c e then change (row-of (e .to)) (shrunk (e .usage) (e .assign)) (lessened (passes c) es (c .names)) else lessened (passes c) es (c .names)))
+  × (lessened (passes c) (c .edges) (c .names) ≡ discount c)

@@ -1,1 +1,1 @@
-pub fn unit() {}
+pub mod laws;
