@@ -1,0 +1,4 @@
+pub mod Taking
+pub mod Naming
+pub mod Ruling
+pub mod Marks

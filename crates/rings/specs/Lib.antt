@@ -1,0 +1,3 @@
+pub mod Ringed
+pub mod Closing
+pub mod Marking
