@@ -1,0 +1,6 @@
+pub mod Living
+pub mod Held
+pub mod Inserting
+pub mod Counts
+pub mod Matching
+pub mod Faults
