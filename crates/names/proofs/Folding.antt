@@ -32,12 +32,6 @@ each-keeps : {S : Type 0} (take : Head → S → Outcome S) (wanted : Bool) (h :
 each-keeps take true h hs s = refl
 each-keeps take false h hs s = refl
 
--- names that stand there only under a condition
-each-chosen : {S : Type 0} (take : Head → S → Outcome S) (some : Bool) (hs : List Head) (s : S)
-    → each take (if some then hs else []) s ≡ if some then each take hs s else fine s
-each-chosen take true hs s = refl
-each-chosen take false hs s = refl
-
 -- what one record gives: its name, if it is wanted, the names under it, the rest
 step-is : {S : Type 0} (take : Head → S → Outcome S) (wanted : Bool) (h : Head) (under rest : List Head)
     (walk-under walk-rest : S → Outcome S)

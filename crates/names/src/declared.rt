@@ -34,6 +34,7 @@ pub fn declared_names<S: NameSink>(
     requires whole { ⌜ Whole (now words) first ⌝ }
     requires deep { ⌜ depth (treeOf (now words) first) ≤ left ⌝ }
     ensures names { λ r. ⌜ Cases r (λ _. each takes (declared (treeOf (now (words .entry)) first)) (held (now (sink .entry))) ≡ fine (held (now (sink .exit)))) (λ e. each takes (declared (treeOf (now (words .entry)) first)) (held (now (sink .entry))) ≡ refused (number e) (place e)) ⌝ }
+    ensures stays { λ _. ⌜ fixed (now (sink .exit)) ≡ fixed (now (sink .entry)) ⌝ }
 {
     walk(words, first, left, Surrounding::none(), sink)
 }
@@ -48,6 +49,7 @@ pub fn declared_below<S: NameSink>(
     requires whole { ⌜ Whole (now words) (node .first) ⌝ }
     requires deep { ⌜ depth (treeOf (now words) (node .first)) ≤ left ⌝ }
     ensures names { λ r. ⌜ Cases r (λ _. each takes (declared-below (headOf 0 node) (treeOf (now (words .entry)) (node .first))) (held (now (sink .entry))) ≡ fine (held (now (sink .exit)))) (λ e. each takes (declared-below (headOf 0 node) (treeOf (now (words .entry)) (node .first))) (held (now (sink .entry))) ≡ refused (number e) (place e)) ⌝ }
+    ensures stays { λ _. ⌜ fixed (now (sink .exit)) ≡ fixed (now (sink .entry)) ⌝ }
 {
     walk(
         words,
@@ -120,6 +122,7 @@ fn walk<S: NameSink>(
     requires whole { ⌜ Whole (now words) first ⌝ }
     requires deep { ⌜ depth (treeOf (now words) first) ≤ left ⌝ }
     ensures walk { λ r. ⌜ Cases r (λ _. walk-declared takes (surrounded around) (treeOf (now (words .entry)) first) (held (now (sink .entry))) ≡ fine (held (now (sink .exit)))) (λ e. walk-declared takes (surrounded around) (treeOf (now (words .entry)) first) (held (now (sink .entry))) ≡ refused (number e) (place e)) ⌝ }
+    ensures stays { λ _. ⌜ fixed (now (sink .exit)) ≡ fixed (now (sink .entry)) ⌝ }
 {
     for (n, node) in Children::of(words, first) {
         if around.declares(node) {

@@ -15,3 +15,4 @@ Inv-loop-n g l =
     Along (l .words) (l .n-iterator) (l .left)
     × (walk-exported take (treeOf (l .words) (l .entry .n-iterator .at)) (held (l .entry .sink))
     ≡ walk-exported take (treeOf (l .words) (l .n-iterator .at)) (held (l .sink)))
+    × (g .S·NameSink .fixed (l .sink) ≡ g .S·NameSink .fixed (l .entry .sink))
