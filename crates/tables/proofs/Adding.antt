@@ -83,7 +83,7 @@ module _ (w : ℕ) (row t : List ℕ) (some : 0 < w) (whole : length row ≡ w) 
 
 module _ {Row : Type 0} (passes : Row → Bool) where
   -- no row passes, and then one does
-  first-next : (n : ℕ) (rs more : List Row) (r : Row) → first-from passes n rs ≡ None → passes r ≡ true
+  pub first-next : (n : ℕ) (rs more : List Row) (r : Row) → first-from passes n rs ≡ None → passes r ≡ true
     → first-from passes n (rs ++ (r ∷ more)) ≡ Some (n + length rs + 1)
   first-next n [] more r e p = cond-true (passes r) (Some (n + 1)) (first-from passes (n + 1) more) p ∙ ap Some (let q : n + 1 ≡ n + 0 + 1 = omega arith in q)
   first-next n (x ∷ rs) more r e p =

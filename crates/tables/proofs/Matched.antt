@@ -12,43 +12,84 @@ use Rattle.std.specs.Joined.{joined}
 use Rattle.std.specs.Options.{isSome}
 use Rattle.std.specs.declared.option.Option.{Option}
 use Rattle.std.specs.declared.option.Option.the-variants.{Some, None}
+use Rattle.std.specs.declared.result.Result.{Result}
+use Rattle.std.specs.declared.result.Result.the-variants.{Ok, Err}
 use Rattle.std.proofs.shelf.Lists.{length-map}
-use Rattle.std.proofs.shelf.Tests.{cond-true, cond-false, cases-bool, eqb-true, eqb-false, ltb-true}
+use Rattle.std.proofs.shelf.Tests.{cond-true, cond-false, cases-bool, eqb-true, eqb-false, ltb-true, and-from}
 use Rattle.rules.specs.Tree.{Name, if_then_else_}
 use Rattle.rules.specs.Refusals.{declared-full, names-full, edges-full}
 use Rattle.rules.specs.Refusals.Outcome.{fine, refused}
 use Rattle.rules.specs.Names.{same}
 use Rattle.rules.specs.Tables.{NameRow, EdgeRow, some-row, need, change, fresh, look, row-of, edge-of, bit, row-number, declared-width, names-width, edges-width, declared-in-words, names-in-words, edges-in-words, table, read-declared}
+use Rattle.tables.specs.declared.fault.TableFault.{TableFault}
+use Rattle.tables.specs.declared.fault.TableFault.the-variants.{Declared, Names, Edges}
 use Rattle.tables.specs.declared.key.Id.{Id}
 use Rattle.tables.specs.declared.key.Edge.{Edge}
 use Rattle.tables.specs.Living.{rows, used, free, first-row, first-from, added, put-row, nth, change-nth}
+use Rattle.tables.specs.Faults.{number, place}
 use Rattle.tables.specs.Held.{Proper, Holds, changed}
+use Rattle.tables.specs.Inserting.{answered, placed}
 use Rattle.tables.specs.Counts.{more-counts, less-counts, with-entry, with-counted}
-use Rattle.tables.specs.Matching.{id-words, name-words, edge-words, Declared-held, Names-held, Edges-held, Named, names-of, name-of, id-keyed, ends-keyed, numbered, Needed, Present, Known, grown, shrunk, entered, marked, heavier}
-use Rattle.tables.specs.Matching.{Declared-words, Declared-read, Declared-back, Declared-needed, Names-words, Names-found, Names-needed, Names-read, Names-changed, Names-change, Edges-words, Edges-found, Edges-needed, Edges-read, Edges-changed, Edges-change, Edges-stay}
+use Rattle.tables.specs.Matching.{id-words, name-words, edge-words, Declared-held, Names-held, Edges-held, Named, names-of, name-of, id-keyed, ends-keyed, numbered, Needed, Row-needed, Present, Known, new-edge, ends-of, ends-words, grown, shrunk, entered, marked, heavier}
+use Rattle.tables.specs.Matching.{Declared-words, Declared-read, Declared-back, Declared-needed, Names-words, Names-found, Names-numbered, Names-needed, Names-read, Names-changed, Names-change, Edges-words, Edges-found, Edges-needed, Edges-read, Edges-changed, Edges-change, Edges-stay}
 use Rattle.tables.proofs.Cutting.{rows-none, rows-end, rows-cons}
+use Rattle.rules.proofs.SameNames.{same-refl}
+use Rattle.tables.proofs.Adding.{first-next}
 use Rattle.tables.proofs.Holding.{holds-rows, holds-used, holds-length, holds-more}
 use Rattle.tables.proofs.Changing.{holds-there, holds-word, holds-changed, nth-below}
 use Rattle.tables.proofs.Numbering.{first-map, first-some, first-at, first-alike, Agree, numbered-first, look-first, number-positive, numbers-same, present-more, number-more, number-named, present-named}
 
--- an insertion into a table that holds rows, of which none passes, is the book's `need`
-needed : {Row : Type 0} (is-it : Row → Bool) (new : Row) (w : ℕ) (in-words : Row → List ℕ) (found : List ℕ) (full at : ℕ) (rs : List Row) (t : List ℕ)
-  → 0 < w → Holds w in-words found rs t → some-row is-it rs ≡ false → length (in-words new) ≡ w → 0 < getD (in-words new) 0 0
-  → Needed is-it new w in-words found full at rs t (added w (in-words new) t)
-needed is-it new w in-words found full at rs t some h none long first =
-  let count = holds-used w in-words some found rs t h in
-  let same-test : free w t ≡ ltb (length rs) (length found / w) =
-    ap (λ n. ltb n (length t / w)) count ∙ ap (λ n. ltb (length rs) (n / w)) (holds-length w in-words some found rs t h) in
-  let space = length found / w in
-  let row-or-not = if ltb (length rs) space then fine (rs ++ (new ∷ [])) else refused full at in
-  let asked : need is-it new space full at rs ≡ row-or-not = cond-false (some-row is-it rs) (fine rs) row-or-not none in
-  ((λ (f : free w t ≡ true).
-      (asked ∙ cond-true (ltb (length rs) space) (fine (rs ++ (new ∷ []))) (refused full at) (sym same-test ∙ f),
-       subst (Holds w in-words found (rs ++ (new ∷ []))) (sym (cond-true (free w t) (put-row (used w t * w) (in-words new) t) t f))
-         (holds-more w in-words some found rs t h new (ltb-true (length rs) space (sym same-test ∙ f)) long first))),
-   (λ (f : free w t ≡ false).
-      (asked ∙ cond-false (ltb (length rs) space) (fine (rs ++ (new ∷ []))) (refused full at) (sym same-test ∙ f),
-       cond-false (free w t) (put-row (used w t * w) (in-words new) t) t f)))
+-- a row that passes is there, or comes last
+module _ {Row : Type 0} (is-it : Row → Bool) (new : Row) (w : ℕ) (in-words : Row → List ℕ) (found : List ℕ) (full at : ℕ) (rs : List Row) (t : List ℕ)
+  (some : 0 < w) (h : Holds w in-words found rs t) (long : length (in-words new) ≡ w) (first : 0 < getD (in-words new) 0 0) (is-new : is-it new ≡ true) where
+  -- a row is free exactly if the book has space
+  same-test : free w t ≡ ltb (length rs) (length found / w)
+  same-test =
+    ap (λ n. ltb n (length t / w)) (holds-used w in-words some found rs t h)
+    ∙ ap (λ n. ltb (length rs) (n / w)) (holds-length w in-words some found rs t h)
+
+  by-answer : (o : Option ℕ) → first-row is-it rs ≡ o → Needed is-it new w in-words found full at rs t o
+  by-answer (Some n) e =
+    (e, cond-true (some-row is-it rs) (fine rs) (if ltb (length rs) (length found / w) then fine (rs ++ (new ∷ [])) else refused full at)
+      (sym (first-some is-it 0 rs) ∙ ap isSome e))
+  by-answer None e =
+    let space = length found / w in
+    let row-or-not = if ltb (length rs) space then fine (rs ++ (new ∷ [])) else refused full at in
+    let none = sym (first-some is-it 0 rs) ∙ ap isSome e in
+    let asked : need is-it new space full at rs ≡ row-or-not = cond-false (some-row is-it rs) (fine rs) row-or-not none in
+    (e,
+     (λ (f : free w t ≡ true).
+       (asked ∙ cond-true (ltb (length rs) space) (fine (rs ++ (new ∷ []))) (refused full at) (sym same-test ∙ f),
+        subst (Holds w in-words found (rs ++ (new ∷ []))) (sym (cond-true (free w t) (put-row (used w t * w) (in-words new) t) t f))
+          (holds-more w in-words some found rs t h new (ltb-true (length rs) space (sym same-test ∙ f)) long first),
+        first-next is-it 0 rs [] new e is-new
+          ∙ ap Some (let u = holds-used w in-words some found rs t h in let q : 0 + length rs + 1 ≡ used w t + 1 = omega arith in q))),
+     (λ (f : free w t ≡ false). asked ∙ cond-false (ltb (length rs) space) (fine (rs ++ (new ∷ []))) (refused full at) (sym same-test ∙ f)))
+
+  -- at the answer of `find`
+  pub needed : (o : Option ℕ) → o ≡ first-row is-it rs → Needed is-it new w in-words found full at rs t o
+  needed o e = by-answer o (sym e)
+
+  -- what `need` answers and leaves
+  as-book : (fault : TableFault) → number fault ≡ full → place fault ≡ at → (o : Option ℕ) → Needed is-it new w in-words found full at rs t o
+    → Row-needed is-it new w in-words found full at rs t (placed w (in-words new) t o) (answered w fault t o)
+  as-book fault nf pf (Some n) e = (rs, e .1, h, e .0)
+  as-book fault nf pf None e =
+    ⊎-elim
+      (λ (f : free w t ≡ true).
+        subst (Row-needed is-it new w in-words found full at rs t (added w (in-words new) t)) (sym (cond-true (free w t) (Ok (used w t + 1)) (Err fault) f))
+          (let y = e .1 f in (rs ++ (new ∷ []), y .0, y .1, y .2)))
+      (λ (f : free w t ≡ false).
+        subst (Row-needed is-it new w in-words found full at rs t (added w (in-words new) t)) (sym (cond-false (free w t) (Ok (used w t + 1)) (Err fault) f))
+          (e .2 f ∙ ap (λ x. refused x at) (sym nf) ∙ ap (λ x. refused (number fault) x) (sym pf),
+           cond-false (free w t) (put-row (used w t * w) (in-words new) t) t f))
+      (cases-bool (free w t))
+
+  pub need-told : (fault : TableFault) → number fault ≡ full → place fault ≡ at → (o : Option ℕ) → Needed is-it new w in-words found full at rs t o
+    → (u : List ℕ) (r : Result ℕ TableFault) → r ≡ answered w fault t o → u ≡ placed w (in-words new) t o → Row-needed is-it new w in-words found full at rs t u r
+  need-told fault nf pf o e u r er eu =
+    subst (λ x. Row-needed is-it new w in-words found full at rs t x r) (sym eu)
+      (subst (Row-needed is-it new w in-words found full at rs t (placed w (in-words new) t o)) (sym er) (as-book fault nf pf o e))
 
 -- DECLARED
 
@@ -104,7 +145,19 @@ pub declared-back : Declared-back
 declared-back found ns words h = words-apart (read-declared words) ns (sym (rows-read words) ∙ holds-rows declared-width id-words (omega arith) found ns words h)
 
 pub declared-needed : Declared-needed
-declared-needed found ns words k at h first none = needed (same (name-of k)) (name-of k) declared-width id-words found declared-full at ns words (omega arith) h none refl first
+declared-needed found ns words k at h first =
+  needed (same (name-of k)) (name-of k) declared-width id-words found declared-full at ns words (omega arith) h refl first (same-refl (name-of k))
+    (first-row (id-keyed k) (rows declared-width words))
+    (ap (first-row (id-keyed k)) (holds-rows declared-width id-words (omega arith) found ns words h) ∙ first-map id-words (id-keyed k) 0 ns)
+
+-- the same of the answer of `need`
+pub declared-told : (found : List ℕ) (ns : List Name) (t u : List ℕ) (k : Id) (at : ℕ) (r : Result ℕ TableFault) → Declared-held found ns t → 0 < k .symbol
+  → r ≡ answered declared-width (Declared at) t (first-row (id-keyed k) (rows declared-width t))
+  → u ≡ placed declared-width (id-words (name-of k)) t (first-row (id-keyed k) (rows declared-width t))
+  → Row-needed (same (name-of k)) (name-of k) declared-width id-words found declared-full at ns t u r
+declared-told found ns t u k at r h first er eu =
+  need-told (same (name-of k)) (name-of k) declared-width id-words found declared-full at ns t (omega arith) h refl first (same-refl (name-of k))
+    (Declared at) refl refl (first-row (id-keyed k) (rows declared-width t)) (declared-needed found ns t k at h first) u r er eu
 
 -- NAMES
 
@@ -125,16 +178,33 @@ names-words found rs words =
 present-first : (n : Name) (rs : List NameRow) → Present rs n → first-row (row-of n) rs ≡ Some (row-number n rs)
 present-first n rs p = numbered-first n rs ∙ cond-true (some-row (row-of n) rs) (Some (row-number n rs)) None p
 
+-- the answer of `find`
+names-first : (found : List ℕ) (rs : List NameRow) (words : List ℕ) (k : Id) → Names-held found rs words
+  → first-row (id-keyed k) (rows names-width words) ≡ first-row (row-of (name-of k)) rs
+names-first found rs words k h =
+  ap (first-row (id-keyed k)) (holds-rows names-width name-words (omega arith) found rs words h) ∙ first-map name-words (id-keyed k) 0 rs
+
 pub names-found : Names-found
-names-found found rs words k h =
-  (ap (first-row (id-keyed k)) (holds-rows names-width name-words (omega arith) found rs words h)
-    ∙ first-map name-words (id-keyed k) 0 rs ∙ numbered-first (name-of k) rs,
-   (λ p. ap (λ j. nth (j - 1) rs) (let q : row-number (name-of k) rs ≡ row-number (name-of k) rs - 0 = omega arith in q)
-     ∙ look-first 0 (row-number (name-of k) rs) (name-of k) rs (present-first (name-of k) rs p)))
+names-found found rs words k h = names-first found rs words k h ∙ numbered-first (name-of k) rs
+
+pub names-numbered : Names-numbered
+names-numbered rs n =
+  (numbered-first n rs,
+   (λ p. ap (λ j. nth (j - 1) rs) (let q : row-number n rs ≡ row-number n rs - 0 = omega arith in q)
+     ∙ look-first 0 (row-number n rs) n rs (present-first n rs p)))
 
 pub names-needed : Names-needed
-names-needed found rs words k at h first none =
-  needed (row-of (name-of k)) (fresh (name-of k)) names-width name-words found names-full at rs words (omega arith) h none refl first
+names-needed found rs words k at h first =
+  needed (row-of (name-of k)) (fresh (name-of k)) names-width name-words found names-full at rs words (omega arith) h refl first (same-refl (name-of k))
+    (first-row (id-keyed k) (rows names-width words)) (names-first found rs words k h)
+
+pub names-told : (found : List ℕ) (rs : List NameRow) (t u : List ℕ) (k : Id) (at : ℕ) (r : Result ℕ TableFault) → Names-held found rs t → 0 < k .symbol
+  → r ≡ answered names-width (Names at) t (first-row (id-keyed k) (rows names-width t))
+  → u ≡ placed names-width (name-words (fresh (name-of k))) t (first-row (id-keyed k) (rows names-width t))
+  → Row-needed (row-of (name-of k)) (fresh (name-of k)) names-width name-words found names-full at rs t u r
+names-told found rs t u k at r h first er eu =
+  need-told (row-of (name-of k)) (fresh (name-of k)) names-width name-words found names-full at rs t (omega arith) h refl first (same-refl (name-of k))
+    (Names at) refl refl (first-row (id-keyed k) (rows names-width t)) (names-needed found rs t k at h first) u r er eu
 
 pub names-read : Names-read
 names-read found rs words n r h p e =
@@ -177,7 +247,7 @@ edges-words names found es words =
 
 -- two numbers of rows are the book's two names
 ends-agree : (names : List NameRow) (es : List EdgeRow) (a b : Name) → Known names es → Present names a → Present names b
-  → Agree (λ e. ends-keyed (record { from = row-number a names; to = row-number b names }) (edge-words names e)) (edge-of a b) es
+  → Agree (λ e. ends-keyed (ends-of names a b) (edge-words names e)) (edge-of a b) es
 ends-agree names [] a b k pa pb = tt
 ends-agree names (e ∷ es) a b k pa pb =
   (ap (λ x. x && eqb (row-number b names) (row-number (e .to) names)) (numbers-same a (e .from) names pa (k .0))
@@ -186,15 +256,31 @@ ends-agree names (e ∷ es) a b k pa pb =
 
 pub edges-found : Edges-found
 edges-found names found es words a b k pa pb h =
-  let key = ends-keyed (record { from = row-number a names; to = row-number b names }) in
+  let key = ends-keyed (ends-of names a b) in
   (ap (first-row key) (holds-rows edges-width (edge-words names) (omega arith) found es words h)
     ∙ first-map (edge-words names) key 0 es
     ∙ first-alike (λ e. key (edge-words names e)) (edge-of a b) 0 es (ends-agree names es a b k pa pb),
    first-some (edge-of a b) 0 es)
 
 pub edges-needed : Edges-needed
-edges-needed names found es words a b at h none =
-  needed (edge-of a b) (record { from = a; to = b; usage = 0; assign = 0 }) edges-width (edge-words names) found edges-full at es words (omega arith) h none refl (number-positive a names)
+edges-needed names found es words a b at k pa pb h =
+  needed (edge-of a b) (new-edge a b) edges-width (edge-words names) found edges-full at es words (omega arith) h refl
+    (number-positive a names) (and-from (same a a) (same b b) (same-refl a) (same-refl b))
+    (first-row (ends-keyed (ends-of names a b)) (rows edges-width words))
+    (edges-found names found es words a b k pa pb h .0)
+
+pub edges-told : (names : List NameRow) (found : List ℕ) (es : List EdgeRow) (t u : List ℕ) (a b : Name) (k : Edge) (at : ℕ) (r : Result ℕ TableFault)
+  → Known names es → Present names a → Present names b → k .from ≡ row-number a names → k .to ≡ row-number b names → Edges-held names found es t
+  → r ≡ answered edges-width (Edges at) t (first-row (ends-keyed k) (rows edges-width t))
+  → u ≡ placed edges-width (ends-words k) t (first-row (ends-keyed k) (rows edges-width t))
+  → Row-needed (edge-of a b) (new-edge a b) edges-width (edge-words names) found edges-full at es t u r
+edges-told names found es t u a b k at r known pa pb fa fb h er eu =
+  let one : k ≡ ends-of names a b = λ i. record { from = fa i; to = fb i } in
+  need-told (edge-of a b) (new-edge a b) edges-width (edge-words names) found edges-full at es t (omega arith) h refl
+    (number-positive a names) (and-from (same a a) (same b b) (same-refl a) (same-refl b))
+    (Edges at) refl refl (first-row (ends-keyed (ends-of names a b)) (rows edges-width t)) (edges-needed names found es t a b at known pa pb h) u r
+    (er ∙ ap (λ x. answered edges-width (Edges at) t (first-row (ends-keyed x) (rows edges-width t))) one)
+    (eu ∙ ap (λ x. placed edges-width (ends-words x) t (first-row (ends-keyed x) (rows edges-width t))) one)
 
 pub edges-read : Edges-read
 edges-read names found es words n e h p q =

@@ -4,13 +4,19 @@
 --   Found-there      the answer for the new row's key
 --   Others-stay      the answers for all other keys
 --   Holds-more       a table that held rows holds one more
+--   answered, placed      a row that is looked up, and put behind the last if it is not there: the answer, and the table left
 use Prim.Native.Nat.{ℕ, _+_, _<_}
 use mathlib.Core.Path.{_≡_}
 use mathlib.Core.Bool.{Bool, true, false}
 use mathlib.Core.List.{List, [], _∷_, _++_}
 use lib.ListN.{getD}
+use Rattle.std.specs.declared.option.Option.{Option}
 use Rattle.std.specs.declared.option.Option.the-variants.{Some, None}
-use Rattle.tables.specs.Living.{rows, used, free, behind, keyed, first-row}
+use Rattle.std.specs.declared.result.Result.{Result}
+use Rattle.std.specs.declared.result.Result.the-variants.{Ok, Err}
+use Rattle.rules.specs.Tree.{if_then_else_}
+use Rattle.tables.specs.declared.fault.TableFault.{TableFault}
+use Rattle.tables.specs.Living.{rows, used, free, behind, keyed, first-row, added}
 use Rattle.tables.specs.Held.{Holds}
 
 -- the new row follows the rows, and what lay behind the first free row follows it: words there that are not 0 come alive
@@ -34,3 +40,13 @@ abbrev pub Holds-more : (width : ℕ) → (row t u : List ℕ) → Type 0
 Holds-more width row t u =
   (found : List ℕ) (rs : List (List ℕ)) → Holds width (λ r. r) found rs t → free width t ≡ true → 0 < getD row 0 0
   → (rows width (behind width t) ≡ []) × Holds width (λ r. r) found (rs ++ (row ∷ [])) u
+
+-- the row that was found, or the one put behind the last, if one is free
+abbrev pub answered : (width : ℕ) → TableFault → List ℕ → Option ℕ → Result ℕ TableFault
+answered width fault t (Some n) = Ok n
+answered width fault t None = if free width t then Ok (used width t + 1) else Err fault
+
+-- what is left of the table
+abbrev pub placed : (width : ℕ) → (row t : List ℕ) → Option ℕ → List ℕ
+placed width row t (Some n) = t
+placed width row t None = added width row t

@@ -1,4 +1,5 @@
 pub mod Living
+pub mod Walking
 pub mod Held
 pub mod Inserting
 pub mod Counts

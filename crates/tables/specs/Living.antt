@@ -87,5 +87,6 @@ pub record Free (width : ℕ) (words : List ℕ) (number begins : ℕ) : Type 0 
   pub some : free width words ≡ true
   pub next : number ≡ used width words + 1
   pub is-there : there width words number ≡ true
+  pub few : number ≤ length words
   pub place : begins ≡ used width words * width
   pub within : begins + width ≤ length words

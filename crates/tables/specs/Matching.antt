@@ -4,8 +4,11 @@
 --   Declared-held, Names-held, Edges-held         a table's words are those of such rows
 --   name-of, id-keyed, ends-keyed                 a key's name; the rows with a key, as `find` looks for them
 --   numbered                                      the answer of `find` in the book's words
---   Needed                                        an insertion is the book's `need`
+--   Needed                                        `find` and `insert` are the book's `need`
+--   Row-needed                                    the answer of `need`, and what it leaves, are as the book says
 --   Present, Known                                names that have rows, and edges between such names
+--   new-edge, ends-of, ends-words                 a new edge; the rows of its names; its words by those rows
+--   grown, shrunk, entered, marked, heavier       rows with their counts and flags changed
 --   Declared-.., Names-.., Edges-..               statements about the three tables
 use Prim.Native.Nat.{ℕ, _+_, _-_, _/_, _≤_, _<_}
 use mathlib.Core.Path.{_≡_}
@@ -16,15 +19,19 @@ use lib.ListN.{length, getD}
 use Rattle.std.specs.Options.{isSome}
 use Rattle.std.specs.declared.option.Option.{Option}
 use Rattle.std.specs.declared.option.Option.the-variants.{Some, None}
+use Rattle.std.specs.Results.{Cases}
+use Rattle.std.specs.declared.result.Result.{Result}
 use Rattle.rules.specs.Tree.{Name, if_then_else_}
 use Rattle.rules.specs.Refusals.{Outcome, declared-full, names-full, edges-full}
 use Rattle.rules.specs.Refusals.Outcome.{fine, refused}
 use Rattle.rules.specs.Names.{same}
 use Rattle.rules.specs.Tables.{NameRow, EdgeRow, some-row, need, change, fresh, look, row-of, edge-of, bit, row-number, declared-width, names-width, edges-width, declared-in-words, names-in-words, edges-in-words, table, read-declared}
 use Rattle.rules.specs.Rings.{minus}
+use Rattle.tables.specs.declared.fault.TableFault.{TableFault}
 use Rattle.tables.specs.declared.key.Id.{Id}
 use Rattle.tables.specs.declared.key.Edge.{Edge}
 use Rattle.tables.specs.Living.{rows, used, free, there, keyed, first-row, nth, change-nth, added}
+use Rattle.tables.specs.Faults.{number, place}
 use Rattle.tables.specs.Held.{Holds, changed}
 use Rattle.tables.specs.Counts.{row-word, plus, usage-word, assign-word, entry-word, counted-word, more-counts, less-counts, with-entry, with-counted}
 
@@ -77,11 +84,24 @@ ends-keyed k = keyed (λ a b. eqb (a .from) (b .from) && eqb (a .to) (b .to)) (�
 abbrev pub numbered : Name → List NameRow → Option ℕ
 numbered n rs = if some-row (row-of n) rs then Some (row-number n rs) else None
 
--- a row that is not there was needed of a table t, which u is after the insertion: it came last, or the table is full and as it was
-abbrev pub Needed : {Row : Type 0} → (Row → Bool) → Row → (width : ℕ) → (Row → List ℕ) → (found : List ℕ) → (full at : ℕ) → List Row → (t u : List ℕ) → Type 0
-Needed is-it new width in-words found full at rs t u =
-  (free width t ≡ true → (need is-it new (length found / width) full at rs ≡ fine (rs ++ (new ∷ []))) × Holds width in-words found (rs ++ (new ∷ [])) u)
-  × (free width t ≡ false → (need is-it new (length found / width) full at rs ≡ refused full at) × (u ≡ t))
+-- a row is needed of a table t that holds rows: it is the row that `find` gives, or else `insert` puts it last, if a row is free
+abbrev pub Needed : {Row : Type 0} → (Row → Bool) → Row → (width : ℕ) → (Row → List ℕ) → (found : List ℕ) → (full at : ℕ) → List Row → (t : List ℕ) → Option ℕ → Type 0
+Needed is-it new width in-words found full at rs t (Some n) =
+  (first-row is-it rs ≡ Some n) × (need is-it new (length found / width) full at rs ≡ fine rs)
+Needed is-it new width in-words found full at rs t None =
+  (first-row is-it rs ≡ None)
+  × (free width t ≡ true →
+      (need is-it new (length found / width) full at rs ≡ fine (rs ++ (new ∷ [])))
+      × Holds width in-words found (rs ++ (new ∷ [])) (added width (in-words new) t)
+      × (first-row is-it (rs ++ (new ∷ [])) ≡ Some (used width t + 1)))
+  × (free width t ≡ false → need is-it new (length found / width) full at rs ≡ refused full at)
+
+-- r answers which row was needed of a table t that holds rows, and u is what is left of the table: as the book says
+abbrev pub Row-needed : {Row : Type 0} → (Row → Bool) → Row → (width : ℕ) → (Row → List ℕ) → (found : List ℕ) → (full at : ℕ) → List Row → (t u : List ℕ) → Result ℕ TableFault → Type 0
+Row-needed {Row} is-it new width in-words found full at rs t u r =
+  Cases r
+    (λ n. (more : List Row) × (need is-it new (length found / width) full at rs ≡ fine more) × Holds width in-words found more u × (first-row is-it more ≡ Some n))
+    (λ e. (need is-it new (length found / width) full at rs ≡ refused (number e) (place e)) × (u ≡ t))
 
 -- a name has a row
 abbrev pub Present : List NameRow → Name → Type 0
@@ -91,6 +111,18 @@ Present names n = some-row (row-of n) names ≡ true
 abbrev pub Known : List NameRow → List EdgeRow → Type 0
 Known names [] = Unit {0}
 Known names (e ∷ es) = Present names (e .from) × Present names (e .to) × Known names es
+
+-- an edge before anything is counted
+abbrev pub new-edge : (a b : Name) → EdgeRow
+new-edge a b = record { from = a; to = b; usage = 0; assign = 0 }
+
+-- its words, by the rows that it leads from and to
+abbrev pub ends-words : Edge → List ℕ
+ends-words k = k .from ∷ k .to ∷ 0 ∷ 0 ∷ []
+
+-- the rows of two names
+abbrev pub ends-of : List NameRow → (a b : Name) → Edge
+ends-of names a b = record { from = row-number a names; to = row-number b names }
 
 -- a row with more in its counts
 abbrev pub grown : (usage assign : ℕ) → NameRow → NameRow
@@ -131,11 +163,10 @@ Declared-read = (words : List ℕ) (k : Id) →
 abbrev pub Declared-back : Type 0
 Declared-back = (found : List ℕ) (ns : List Name) (words : List ℕ) → Declared-held found ns words → read-declared words ≡ ns
 
--- an insertion is the book's `need`
+-- `find`, and `insert` where it finds none, are the book's `need`
 abbrev pub Declared-needed : Type 0
 Declared-needed = (found : List ℕ) (ns : List Name) (words : List ℕ) (k : Id) (at : ℕ) → Declared-held found ns words → 0 < k .symbol
-  → some-row (same (name-of k)) ns ≡ false
-  → Needed (same (name-of k)) (name-of k) declared-width id-words found declared-full at ns words (added declared-width (id-words (name-of k)) words)
+  → Needed (same (name-of k)) (name-of k) declared-width id-words found declared-full at ns words (first-row (id-keyed k) (rows declared-width words))
 
 -- NAMES
 
@@ -147,13 +178,16 @@ Names-words = (found : List ℕ) (rs : List NameRow) (words : List ℕ) →
 -- `find` gives the row of a name
 abbrev pub Names-found : Type 0
 Names-found = (found : List ℕ) (rs : List NameRow) (words : List ℕ) (k : Id) → Names-held found rs words
-  → (first-row (id-keyed k) (rows names-width words) ≡ numbered (name-of k) rs)
-  × (Present rs (name-of k) → nth (row-number (name-of k) rs - 1) rs ≡ Some (look (name-of k) rs))
+  → first-row (id-keyed k) (rows names-width words) ≡ numbered (name-of k) rs
+
+-- which is the first row with the name, and the one that the book looks at
+abbrev pub Names-numbered : Type 0
+Names-numbered = (rs : List NameRow) (n : Name) →
+  (first-row (row-of n) rs ≡ numbered n rs) × (Present rs n → nth (row-number n rs - 1) rs ≡ Some (look n rs))
 
 abbrev pub Names-needed : Type 0
 Names-needed = (found : List ℕ) (rs : List NameRow) (words : List ℕ) (k : Id) (at : ℕ) → Names-held found rs words → 0 < k .symbol
-  → some-row (row-of (name-of k)) rs ≡ false
-  → Needed (row-of (name-of k)) (fresh (name-of k)) names-width name-words found names-full at rs words (added names-width (name-words (fresh (name-of k))) words)
+  → Needed (row-of (name-of k)) (fresh (name-of k)) names-width name-words found names-full at rs words (first-row (id-keyed k) (rows names-width words))
 
 -- a row's words are read by its number
 abbrev pub Names-read : Type 0
@@ -186,14 +220,14 @@ Edges-words = (names : List NameRow) (found : List ℕ) (es : List EdgeRow) (wor
 abbrev pub Edges-found : Type 0
 Edges-found = (names : List NameRow) (found : List ℕ) (es : List EdgeRow) (words : List ℕ) (a b : Name)
   → Known names es → Present names a → Present names b → Edges-held names found es words
-  → (first-row (ends-keyed (record { from = row-number a names; to = row-number b names })) (rows edges-width words) ≡ first-row (edge-of a b) es)
+  → (first-row (ends-keyed (ends-of names a b)) (rows edges-width words) ≡ first-row (edge-of a b) es)
   × (isSome (first-row (edge-of a b) es) ≡ some-row (edge-of a b) es)
 
 abbrev pub Edges-needed : Type 0
 Edges-needed = (names : List NameRow) (found : List ℕ) (es : List EdgeRow) (words : List ℕ) (a b : Name) (at : ℕ)
-  → Edges-held names found es words → some-row (edge-of a b) es ≡ false
-  → let new : EdgeRow = record { from = a; to = b; usage = 0; assign = 0 } in
-    Needed (edge-of a b) new edges-width (edge-words names) found edges-full at es words (added edges-width (edge-words names new) words)
+  → Known names es → Present names a → Present names b → Edges-held names found es words
+  → Needed (edge-of a b) (new-edge a b) edges-width (edge-words names) found edges-full at es words
+      (first-row (ends-keyed (ends-of names a b)) (rows edges-width words))
 
 abbrev pub Edges-read : Type 0
 Edges-read = (names : List NameRow) (found : List ℕ) (es : List EdgeRow) (words : List ℕ) (n : ℕ) (e : EdgeRow)

@@ -1,5 +1,5 @@
 ghost use Rattle.tables.specs.Matching.{Declared-words, Declared-read, Declared-back, Declared-needed};
-ghost use Rattle.tables.specs.Matching.{Names-words, Names-found, Names-needed, Names-read, Names-changed, Names-change};
+ghost use Rattle.tables.specs.Matching.{Names-words, Names-found, Names-numbered, Names-needed, Names-read, Names-changed, Names-change};
 ghost use Rattle.tables.specs.Matching.{Edges-words, Edges-found, Edges-needed, Edges-read, Edges-changed, Edges-change, Edges-stay};
 
 /// What the operations come to in the book's words, for declared.
@@ -16,6 +16,7 @@ pub fn declared_is_the_books() -> u8
 pub fn names_is_the_books() -> u8
     ensures words { λ _. ⌜ Names-words ⌝ }
     ensures found { λ _. ⌜ Names-found ⌝ }
+    ensures numbered { λ _. ⌜ Names-numbered ⌝ }
     ensures needed { λ _. ⌜ Names-needed ⌝ }
     ensures read { λ _. ⌜ Names-read ⌝ }
     ensures changed { λ _. ⌜ Names-changed ⌝ }

@@ -1,14 +1,19 @@
 ghost use mathlib.Core.Path.{_≡_};
 ghost use mathlib.Core.Bool.{true, false, _&&_, not};
-ghost use mathlib.Core.List.{[], _∷_};
+ghost use mathlib.Core.List.{List, [], _∷_};
+ghost use Prim.Native.Nat.{ℕ, _≤_, _<_};
 ghost use lib.Dec.{eqb};
-ghost use lib.ListN.{getD};
+ghost use lib.ListN.{length, getD};
 ghost use Rattle.std.specs.Options.{Cases};
-ghost use Rattle.rules.specs.Tables.{names-width};
-ghost use Rattle.tables.specs.declared.fault.TableFault.the-variants.{Names as names-full};
-ghost use Rattle.tables.specs.Living.{there};
+ghost use Rattle.std.specs.Vec.{made};
+ghost use Rattle.rules.specs.Refusals.{names-full};
+ghost use Rattle.rules.specs.Tables.{NameRow, fresh, row-of, names-width};
+ghost use Rattle.tables.specs.declared.fault.TableFault.the-variants.{Names as table-full};
+ghost use Rattle.tables.specs.Living.{rows, there, first-row};
 ghost use Rattle.tables.specs.Held.{changed};
+ghost use Rattle.tables.specs.Inserting.{answered, placed};
 ghost use Rattle.tables.specs.Counts.{usage-word, assign-word, entry-word, counted-word, row-word, more-counts, less-counts, with-entry, with-counted};
+ghost use Rattle.tables.specs.Matching.{name-words, name-of, id-keyed, Names-held, Row-needed};
 use crate::counts::VarInfo;
 use crate::counts::add_counts;
 use crate::counts::counts_at;
@@ -17,6 +22,7 @@ use crate::fault::TableFault;
 use crate::key::Id;
 use crate::key::IdEq;
 use crate::row::Row;
+use crate::table::need;
 use crate::table::row_start;
 
 /// The word of a row that says whether the name is an entry.
@@ -38,7 +44,7 @@ pub impl Row for Names as NamesRow {
 
     ghost fresh = { λ k. k .symbol ∷ k .mark ∷ 0 ∷ 0 ∷ 0 ∷ 0 ∷ [] };
 
-    ghost full = { names-full };
+    ghost full = { table-full };
 
     fn stride() -> usize {
         Self::WIDTH
@@ -58,6 +64,16 @@ pub impl Row for Names as NamesRow {
 }
 
 impl Names {
+    /// The row of a name, put behind the last row if it is not there. `at` is the record that needs it.
+    pub fn need(names: &mut [u32], id: Id, at: u32) -> Result<usize, TableFault>
+        ensures row { λ r. ⌜ r ≡ answered names-width (table-full at) (now (names .entry)) (first-row (id-keyed id) (rows names-width (now (names .entry)))) ⌝ }
+        ensures there { λ r. ⌜ made r (λ n. (there names-width (now (names .exit)) n ≡ true) × (n ≤ length (now (names .exit)))) ⌝ }
+        ensures words { λ _. ⌜ now (names .exit) ≡ placed names-width (name-words (fresh (name-of id))) (now (names .entry)) (first-row (id-keyed id) (rows names-width (now (names .entry)))) ⌝ }
+        ensures book { λ r. ⌜ ((found : List ℕ) (rs : List NameRow) → 0 < id .symbol → Names-held found rs (now (names .entry)) → Row-needed (row-of (name-of id)) (fresh (name-of id)) names-width name-words found names-full at rs (now (names .entry)) (now (names .exit)) r) ⌝ }
+    {
+        need::<Names>(names, id, at)
+    }
+
     /// The counts of a row.
     pub fn info(names: &[u32], row: usize) -> Option<VarInfo>
         ensures row { λ r. ⌜ Cases r (there names-width (now (names .entry)) row ≡ false) (λ i. (there names-width (now (names .entry)) row ≡ true) × (i .usage ≡ row-word names-width row usage-word (now (names .entry))) × (i .assign ≡ row-word names-width row assign-word (now (names .entry)))) ⌝ }

@@ -4,6 +4,7 @@ ghost use Prim.Native.Nat.{_/_, _≤_, _<_};
 ghost use lib.ListN.{length};
 ghost use Rattle.std.specs.Options.{Cases};
 ghost use Rattle.tables.specs.Living.{rows, used};
+ghost use Rattle.tables.specs.Walking.{rows-left, row-width};
 use crate::row::Row;
 
 /// The rows of a table in their order, each as its words.
@@ -16,9 +17,9 @@ pub struct Rows<'t> {
 impl<'t> Rows<'t> {
     /// Those of the table that these words are.
     pub fn of<R: Row>(table: &'t [u32]) -> Rows<'t>
-        ensures left { λ r. ⌜ now (r .left) ≡ now (table .entry) ⌝ }
-        ensures width { λ r. ⌜ r .width ≡ wide ⌝ }
-        ensures some { λ r. ⌜ 0 < r .width ⌝ }
+        ensures left { λ r. ⌜ rows-left r ≡ rows wide (now (table .entry)) ⌝ }
+        ensures width { λ r. ⌜ row-width r ≡ wide ⌝ }
+        ensures some { λ r. ⌜ 0 < row-width r ⌝ }
         ensures few { λ _. ⌜ used wide (now (table .entry)) ≤ length (now (table .entry)) ⌝ }
         ensures whole { λ _. ⌜ used wide (now (table .entry)) ≤ length (now (table .entry)) / wide ⌝ }
     {
@@ -29,13 +30,13 @@ impl<'t> Rows<'t> {
 pub impl<'t> Iterator for Rows<'t> as RowsIterator {
     type Item = &'t [u32];
 
-    ghost can = { λ s. 0 < s .width };
+    ghost can = { λ s. 0 < row-width s };
 
-    ghost steps = { λ s r t. (t .width ≡ s .width) × Cases r (rows (s .width) (s .left .now) ≡ []) (λ x. (rows (s .width) (s .left .now) ≡ x .now ∷ rows (t .width) (t .left .now)) × (length (x .now) ≡ s .width)) };
+    ghost steps = { λ s r t. (row-width t ≡ row-width s) × Cases r (rows-left s ≡ []) (λ x. (rows-left s ≡ x .now ∷ rows-left t) × (length (x .now) ≡ row-width s)) };
 
-    ghost ends = { λ s. 0 < s .width };
+    ghost ends = { λ s. 0 < row-width s };
 
-    ghost left = { λ s. length (rows (s .width) (s .left .now)) };
+    ghost left = { λ s. length (rows-left s) };
 
     fn next(&mut self) -> Option<&'t [u32]> {
         let (row, left) = first_row(self.left, self.width)?;

@@ -9,7 +9,7 @@ ghost use Rattle.std.specs.Vec.{made, refused};
 ghost use Rattle.rules.specs.Calls.{zeroed};
 ghost use Rattle.tables.specs.Living.{rows, used, free, there, start-of, keyed, first-row, added, Free};
 ghost use Rattle.tables.specs.Held.{Holds};
-ghost use Rattle.tables.specs.Inserting.{Comes-alive, Found-there, Others-stay, Holds-more};
+ghost use Rattle.tables.specs.Inserting.{Comes-alive, Found-there, Others-stay, Holds-more, answered, placed};
 use crate::fault::TableFault;
 use crate::key::LawfulEq;
 use crate::row::Row;
@@ -19,7 +19,7 @@ use crate::rows::RowsIterator;
 /// The number of the first row with the key.
 pub fn find<R: Row>(table: &[u32], key: &R::Key) -> Option<usize>
     ensures row { λ r. ⌜ r ≡ first-row (keyed (Key·LawfulEq .same) keyOf (now (key .entry))) (rows wide (now (table .entry))) ⌝ }
-    ensures there { λ r. ⌜ Cases r (Unit {0}) (λ n. there wide (now (table .entry)) n ≡ true) ⌝ }
+    ensures there { λ r. ⌜ Cases r (Unit {0}) (λ n. (there wide (now (table .entry)) n ≡ true) × (n ≤ length (now (table .entry)))) ⌝ }
 {
     let mut number = 0;
     for row in Rows::of::<R>(table) {
@@ -34,8 +34,7 @@ pub fn find<R: Row>(table: &[u32], key: &R::Key) -> Option<usize>
 /// How many rows the table has.
 pub fn row_count<R: Row>(table: &[u32]) -> usize
     ensures row { λ r. ⌜ r ≡ used wide (now (table .entry)) ⌝ }
-    ensures few { λ r. ⌜ r ≤ length (now (table .entry)) ⌝ }
-    ensures whole { λ r. ⌜ r ≤ length (now (table .entry)) / wide ⌝ }
+    ensures few { λ r. ⌜ (r ≤ length (now (table .entry)) / wide) × (r ≤ length (now (table .entry))) ⌝ }
 {
     let mut count = 0;
     for _ in Rows::of::<R>(table) {
@@ -81,7 +80,8 @@ fn free_row<R: Row>(table: &[u32]) -> Option<FreeRow>
 /// Puts a new row with the key behind the last row, and gives its number. `at` is the record that needs it.
 pub fn insert<R: Row>(table: &mut [u32], key: R::Key, at: u32) -> Result<usize, TableFault>
     ensures words { λ _. ⌜ now (table .exit) ≡ added wide (fresh key) (now (table .entry)) ⌝ }
-    ensures row { λ r. ⌜ made r (λ n. (n ≡ used wide (now (table .entry)) + 1) × (free wide (now (table .entry)) ≡ true) × (there wide (now (table .entry)) n ≡ true)) ⌝ }
+    ensures row { λ r. ⌜ made r (λ n. (n ≡ used wide (now (table .entry)) + 1) × (free wide (now (table .entry)) ≡ true)) ⌝ }
+    ensures there { λ r. ⌜ made r (λ n. (there wide (now (table .exit)) n ≡ true) × (n ≤ length (now (table .exit)))) ⌝ }
     ensures refused { λ r. ⌜ refused r (λ e. (e ≡ full at) × (free wide (now (table .entry)) ≡ false)) ⌝ }
     ensures alive { λ _. ⌜ Comes-alive wide (fresh key) (now (table .entry)) (now (table .exit)) ⌝ }
     ensures found { λ _. ⌜ Found-there (keyed (Key·LawfulEq .same) keyOf key) wide (fresh key) (now (table .entry)) (now (table .exit)) ⌝ }
@@ -93,6 +93,18 @@ pub fn insert<R: Row>(table: &mut [u32], key: R::Key, at: u32) -> Result<usize, 
     };
     R::write(&mut table[start..start + R::stride()], key);
     Ok(number)
+}
+
+/// The number of the row with the key, which is put behind the last row if it is not there. `at` is the record that needs it.
+pub fn need<R: Row>(table: &mut [u32], key: R::Key, at: u32) -> Result<usize, TableFault>
+    ensures row { λ r. ⌜ r ≡ answered wide (full at) (now (table .entry)) (first-row (keyed (Key·LawfulEq .same) keyOf key) (rows wide (now (table .entry)))) ⌝ }
+    ensures there { λ r. ⌜ made r (λ n. (there wide (now (table .exit)) n ≡ true) × (n ≤ length (now (table .exit)))) ⌝ }
+    ensures words { λ _. ⌜ now (table .exit) ≡ placed wide (fresh key) (now (table .entry)) (first-row (keyed (Key·LawfulEq .same) keyOf key) (rows wide (now (table .entry)))) ⌝ }
+{
+    match find::<R>(table, &key) {
+        Some(number) => Ok(number),
+        None => insert::<R>(table, key, at),
+    }
 }
 
 /// Makes every whole row 0. The words past the last whole row stay.

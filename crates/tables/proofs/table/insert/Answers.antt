@@ -1,3 +1,4 @@
+use borrow.Author.Needs.{needs}
 use Rattle.tables.proofs.Adding.{put-added, comes-alive, found-there, others-stay, held-more}
 use Rattle.tables.proofs.table.insert.Needs as need
 
@@ -16,7 +17,8 @@ returns g c =
   let words = put-added w (c .stride .result) (c .in-Some .field-0 .start) row t (c .write .last .row) whole (c .stride .ensures) (free .some) (free .place) (c .write .ensures) in
   record {
     words = words;
-    row = (free .next, free .some, free .is-there);
+    row = (free .next, free .some);
+    there = search needs;
     refused = tt;
     alive = comes-alive same keyOf k w row t _ some whole reads words;
     found = found-there same keyOf k w row t _ some whole reads words;
