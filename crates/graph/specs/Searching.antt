@@ -1,4 +1,4 @@
--- What a search for components keeps between its steps (path-based, after Purdom, Munro and Gabow). The contracts of the search cite it.
+-- What a walk for components keeps between its steps (path-based, after Purdom, Munro and Gabow). The contracts of the walk cite it.
 -- Each node has a place: 0 while it is unseen, one more than its position while it stands on the stack, and above the number of
 -- nodes once its component is known. Borders cut the stack into segments.
 --
@@ -99,7 +99,7 @@ pub record Settled (edges : List (ℕ × ℕ)) (n : ℕ) (places : List ℕ) (co
   pub joined : (a b : ℕ) → a < n → b < n → n < getD places a 0 → getD places a 0 ≡ getD places b 0 → Leads edges a b
   pub used : (c : ℕ) → c < count → (v : ℕ) × (v < n) × (getD places v 0 ≡ n + 1 + c)
 
--- all that a search keeps
+-- all that a walk keeps
 pub record Search (edges : List (ℕ × ℕ)) (n : ℕ) (turns stack back borders places : List ℕ) (top at depth count : ℕ) : Type 0 where
   pub sized : Sized n turns stack back borders places
   pub stacked : Stacked n stack places top count

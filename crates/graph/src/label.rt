@@ -6,7 +6,7 @@ ghost use Rattle.graph.specs.Graphs.{Components};
 ghost use Rattle.graph.specs.Refusals.{Stray};
 use crate::edges::Edges;
 use crate::link::link;
-use crate::search::search;
+use crate::explore::explore;
 
 /// Takes the same number from each label.
 fn lower(labels: &mut [u32], by: u32)
@@ -31,7 +31,7 @@ pub fn label<E: Edges>(edges: &E, turns: &mut [u32], stack: &mut [u32], back: &m
 {
     link(edges, turns, links)?;
     labels.fill(0);
-    let count = search(edges, links, turns, stack, back, borders, labels);
+    let count = explore(edges, links, turns, stack, back, borders, labels);
     lower(labels, labels.len() as u32 + 1);
     Ok(count)
 }

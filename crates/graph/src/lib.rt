@@ -9,7 +9,7 @@ pub mod edges;
 pub mod fault;
 mod label;
 mod link;
-mod search;
+mod explore;
 
 pub use edges::Edges;
 pub use edges::Pairs;

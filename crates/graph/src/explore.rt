@@ -4,7 +4,7 @@ ghost use lib.ListN.{length, getD, set};
 ghost use Rattle.graph.specs.Searching.{Star, Stacked, Stamped, Search, Seen, left};
 use crate::edges::Edges;
 
-/// Where a search stands: how high the stack is, one more than the position of the node whose turn it is, or 0, how many borders stand on
+/// Where a walk stands: how high the stack is, one more than the position of the node whose turn it is, or 0, how many borders stand on
 /// the stack, and how many components are known.
 #[derive(Clone, Copy)]
 pub struct Stand {
@@ -75,9 +75,9 @@ fn stamp(stack: &[u32], places: &mut [u32], border: u32, stand: Stand, label: u3
 fn step<E: Edges>(edges: &E, links: &[u32], turns: &mut [u32], stack: &mut [u32], back: &mut [u32], borders: &mut [u32], places: &mut [u32], stand: Stand) -> Stand
     requires star { ⌜ Star (list (now edges)) (length (now places)) (now links) ⌝ }
     requires room { ⌜ length (list (now edges)) ≤ length (now links) ⌝ }
-    requires search { ⌜ Search (list (now edges)) (length (now places)) (now turns) (now stack) (now back) (now borders) (now places) (stand .top) (stand .at) (stand .depth) (stand .count) ⌝ }
+    requires walk { ⌜ Search (list (now edges)) (length (now places)) (now turns) (now stack) (now back) (now borders) (now places) (stand .top) (stand .at) (stand .depth) (stand .count) ⌝ }
     requires some { ⌜ 0 < stand .depth ⌝ }
-    ensures search { λ r. ⌜ Search (list (now (edges .entry))) (length (now (places .entry))) (now (turns .exit)) (now (stack .exit)) (now (back .exit)) (now (borders .exit)) (now (places .exit)) (r .top) (r .at) (r .depth) (r .count) ⌝ }
+    ensures walk { λ r. ⌜ Search (list (now (edges .entry))) (length (now (places .entry))) (now (turns .exit)) (now (stack .exit)) (now (back .exit)) (now (borders .exit)) (now (places .exit)) (r .top) (r .at) (r .depth) (r .count) ⌝ }
     ensures seen { λ _. ⌜ Seen (length (now (places .entry))) (now (places .entry)) (now (places .exit)) ⌝ }
     ensures falls { λ r. ⌜ left (length (now (places .entry))) (now (turns .exit)) (r .at) (r .depth) < left (length (now (places .entry))) (now (turns .entry)) (stand .at) (stand .depth) ⌝ }
 {
@@ -121,10 +121,10 @@ fn step<E: Edges>(edges: &E, links: &[u32], turns: &mut [u32], stack: &mut [u32]
 fn visit<E: Edges>(edges: &E, links: &[u32], turns: &mut [u32], stack: &mut [u32], back: &mut [u32], borders: &mut [u32], places: &mut [u32], root: u32, count: u32) -> u32
     requires star { ⌜ Star (list (now edges)) (length (now places)) (now links) ⌝ }
     requires room { ⌜ length (list (now edges)) ≤ length (now links) ⌝ }
-    requires search { ⌜ Search (list (now edges)) (length (now places)) (now turns) (now stack) (now back) (now borders) (now places) 0 0 0 count ⌝ }
+    requires walk { ⌜ Search (list (now edges)) (length (now places)) (now turns) (now stack) (now back) (now borders) (now places) 0 0 0 count ⌝ }
     requires known { ⌜ root < length (now places) ⌝ }
     requires unseen { ⌜ getD (now places) root 0 ≡ 0 ⌝ }
-    ensures search { λ r. ⌜ Search (list (now (edges .entry))) (length (now (places .entry))) (now (turns .exit)) (now (stack .exit)) (now (back .exit)) (now (borders .exit)) (now (places .exit)) 0 0 0 r ⌝ }
+    ensures walk { λ r. ⌜ Search (list (now (edges .entry))) (length (now (places .entry))) (now (turns .exit)) (now (stack .exit)) (now (back .exit)) (now (borders .exit)) (now (places .exit)) 0 0 0 r ⌝ }
     ensures root { λ _. ⌜ 0 < getD (now (places .exit)) root 0 ⌝ }
     ensures seen { λ _. ⌜ Seen (length (now (places .entry))) (now (places .entry)) (now (places .exit)) ⌝ }
 {
@@ -142,11 +142,11 @@ fn visit<E: Edges>(edges: &E, links: &[u32], turns: &mut [u32], stack: &mut [u32
 }
 
 /// Searches from each node that is unseen when its number comes, and gives the number of components.
-pub fn search<E: Edges>(edges: &E, links: &[u32], turns: &mut [u32], stack: &mut [u32], back: &mut [u32], borders: &mut [u32], places: &mut [u32]) -> u32
+pub fn explore<E: Edges>(edges: &E, links: &[u32], turns: &mut [u32], stack: &mut [u32], back: &mut [u32], borders: &mut [u32], places: &mut [u32]) -> u32
     requires star { ⌜ Star (list (now edges)) (length (now places)) (now links) ⌝ }
     requires room { ⌜ length (list (now edges)) ≤ length (now links) ⌝ }
-    requires search { ⌜ Search (list (now edges)) (length (now places)) (now turns) (now stack) (now back) (now borders) (now places) 0 0 0 0 ⌝ }
-    ensures search { λ r. ⌜ Search (list (now (edges .entry))) (length (now (places .entry))) (now (turns .exit)) (now (stack .exit)) (now (back .exit)) (now (borders .exit)) (now (places .exit)) 0 0 0 r ⌝ }
+    requires walk { ⌜ Search (list (now edges)) (length (now places)) (now turns) (now stack) (now back) (now borders) (now places) 0 0 0 0 ⌝ }
+    ensures walk { λ r. ⌜ Search (list (now (edges .entry))) (length (now (places .entry))) (now (turns .exit)) (now (stack .exit)) (now (back .exit)) (now (borders .exit)) (now (places .exit)) 0 0 0 r ⌝ }
     ensures seen { λ _. ⌜ ((v : ℕ) → v < length (now (places .entry)) → 0 < getD (now (places .exit)) v 0) ⌝ }
 {
     let mut count = 0;

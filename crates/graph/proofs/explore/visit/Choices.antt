@@ -1,6 +1,6 @@
 use lib.ListN.{length}
 use Rattle.graph.specs.Searching.{Star, Search, Seen, left}
-use Rattle.graph.proofs.search.visit.Given as given
+use Rattle.graph.proofs.explore.visit.Given as given
 
 abbrev pub Inv-loop-stand : given.InvT-loop-stand
 Inv-loop-stand g l = Star (g .E·Edges .list (l .edges)) (length (l .places)) (l .links)

@@ -1,7 +1,7 @@
 use Prim.Native.Nat.{ℕ, _<_}
 use lib.ListN.{length, getD}
 use Rattle.graph.specs.Searching.{Star, Search}
-use Rattle.graph.proofs.search.search.Given as given
+use Rattle.graph.proofs.explore.explore.Given as given
 
 abbrev pub Inv-loop-root : given.InvT-loop-root
 Inv-loop-root g l = Star (g .E·Edges .list (l .edges)) (length (l .places)) (l .links)

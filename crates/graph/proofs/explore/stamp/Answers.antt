@@ -1,6 +1,6 @@
 use native.Mathlib.Omega.{arith}
 use Rattle.graph.proofs.Closing.{stamped-none, stamped-more}
-use Rattle.graph.proofs.search.stamp.Needs as need
+use Rattle.graph.proofs.explore.stamp.Needs as need
 
 pub loop-p-holds : need.loop-p-holds
 loop-p-holds c = stamped-none _ _ _ _
