@@ -25,12 +25,13 @@ use Rattle.rules.specs.Removal.{Config, By, at-root, treat}
 use Rattle.rules.specs.Calls.{State, Filled, Pass, After, most-table-words, handed-fit, zeroed, cleared, filled-up, fill-tables, pass-by, remove, passed, pass-filled, pass-checked, pass-once}
 use Rattle.rules.specs.Law.{tree-of, Same-lost}
 use Rattle.laws.proofs.TablesRoom.{Bounded}
+use Rattle.laws.proofs.TablesPass.{declared-rows, tables-of, tables-fit, fill-tables-bounded}
 use Rattle.laws.proofs.UnnumberedRemoval.{blind}
 use Rattle.laws.proofs.OrderCount.{counts-turned}
 use Rattle.laws.proofs.OrderWords.{table-sizes, names-words-sizes, edges-words-sizes}
 use Rattle.laws.proofs.OrderTwins.{Twins, formed-named}
 use Rattle.laws.proofs.AlikeRemoval.{Left-alike, removed-alike, by-alike}
-use Rattle.laws.proofs.AlikeFilling.{declared-rows, tables-of, tables-fit, fill-tables-bounded, Held-alike, rows-declared-alike, counts-sizes, fit-alike, read-after, read-full, after-sizes}
+use Rattle.laws.proofs.AlikeFilling.{Held-alike, rows-declared-alike, counts-sizes, fit-alike, read-after, read-full, after-sizes}
 
 -- a state's tree
 abbrev pub tree : State → Chain

@@ -22,6 +22,7 @@ pub mod TablesEdges
 pub mod TablesTold
 pub mod TablesSizes
 pub mod TablesRoom
+pub mod TablesPass
 pub mod RingsDiscount
 pub mod RingsClosed
 -- lists of calls

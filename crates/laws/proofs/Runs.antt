@@ -7,7 +7,7 @@
 --   turn, turn-cases              a repeat's turn, by the pass that begins it
 --   call-cases, called-one        a call; each answer of a list is that of a call on a ready state
 use Prim.Native.Nat.{ℕ, zero, suc, _≤_}
-use mathlib.Core.Path.{_≡_, refl, sym, ap, subst, _∙_}
+use mathlib.Core.Path.{_≡_, refl, sym, subst}
 use mathlib.Core.Bool.{Bool, true, false}
 use mathlib.Core.List.{List, [], _∷_, _++_}
 use mathlib.Core.Logic.{⊎-elim}
@@ -17,18 +17,16 @@ use Rattle.rules.specs.Refusals.{Outcome}
 use Rattle.rules.specs.Refusals.Outcome.{fine, refused}
 use Rattle.rules.specs.Check.{check}
 use Rattle.rules.specs.Held.{Formed}
-use Rattle.rules.specs.Counting.{events-of}
-use Rattle.rules.specs.Tables.{Room, room, fill, no-rows, read-declared}
+use Rattle.rules.specs.Tables.{Room, room, read-declared}
 use Rattle.rules.specs.Removal.{Config, By, at-root, treat}
-use Rattle.rules.specs.Calls.{State, Handed, Filled, Pass, After, Call, Answer, handed-fit, cleared, filled-up, fill-declared, fill-tables, pass-by, passed, pass-filled, pass-checked, pass-once, passes-from, reached-by, call-fitting, unfit-answer, call, calls}
+use Rattle.rules.specs.Calls.{State, Handed, Filled, Pass, After, Call, Answer, handed-fit, cleared, filled-up, fill-tables, pass-by, passed, pass-filled, pass-checked, pass-once, passes-from, reached-by, call-fitting, unfit-answer, call, calls}
 use Rattle.rules.specs.Calls.Call.{pass, reset, repeat}
 use Rattle.rules.specs.Law.{In, begun-on}
 use Rattle.rules.proofs.Sounds.{check-sound}
-use Rattle.rules.proofs.Fuel.{then-fine}
-use Rattle.laws.proofs.Basics.{fine-eq, elim-both}
+use Rattle.laws.proofs.Basics.{elim-both}
 use Rattle.laws.proofs.KeepsFormed.{keeps-formed}
 use Rattle.laws.proofs.TablesFilled.{filled}
-use Rattle.laws.proofs.TablesRoom.{fill-filled}
+use Rattle.laws.proofs.TablesPass.{counts, fill-tables-counts}
 use Rattle.laws.proofs.RunsNumbered.{Numbered, numbered-check, numbered-tables}
 
 -- removals one after another, each by tables of its own
@@ -56,7 +54,7 @@ begun-ready words = by-outcome (check (words .tree)) refl
 
 -- a completed pass has filled its tables from the tree that it found
 abbrev pub Full : Pass → Type 0
-Full p = p .filled .counts ≡ filled (events-of (p .found)) no-rows
+Full p = p .filled .counts ≡ counts (p .found)
 
 -- a pass that was not made leaves the tree; one that was made leaves what its removal does
 pub data Result (k : Config) (s : State) : After (Outcome Bool) → Type 0 where
@@ -65,11 +63,7 @@ pub data Result (k : Config) (s : State) : After (Outcome Bool) → Type 0 where
 
 filled-result : (k : Config) (s : State) (tree : Chain) → s .tree ≡ fine tree → (space : Room) (held : List Name) (o : Outcome Filled) → fill-tables space tree held ≡ o → Result k s (pass-filled k s tree o)
 filled-result k s tree e space held (refused number at) g = not-made number at (filled-up s) (subst (λ (o : Outcome Filled). Numbered o) g (numbered-tables space tree held)) refl
-filled-result k s tree e space held (fine rows) g =
-  let t1 = then-fine (fill-declared space tree held) _ rows g in
-  let t2 = then-fine (fill space (events-of tree) no-rows) _ rows (t1 .2) in
-  one-made (record { found = tree; filled = rows }) e
-    (ap (λ (f : Filled). f .counts) (sym (fine-eq (record { declared = t1 .0; counts = t2 .0 }) rows (t2 .2))) ∙ fill-filled space (events-of tree) (t2 .0) (t2 .1))
+filled-result k s tree e space held (fine rows) g = one-made (record { found = tree; filled = rows }) e (fill-tables-counts space tree held rows g)
 
 checked-result : (k : Config) (s : State) (o : Outcome Chain) → s .tree ≡ o → Ready o → Result k s (pass-checked k s o)
 checked-result k s (refused number at) e r = not-made number at s r refl
