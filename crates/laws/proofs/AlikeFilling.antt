@@ -22,7 +22,7 @@ use Rattle.laws.proofs.AlikeSizes.{tidy-filled, names-sizes, edges-sizes}
 use Rattle.laws.proofs.OrderCount.{Turned, counts-turned, names-turned}
 use Rattle.laws.proofs.OrderNowhere.{Nowhere}
 use Rattle.laws.proofs.OrderDeclared.{declared-names, declared-sizes, unnamed, symbols-of-tree}
-use Rattle.laws.proofs.OrderWords.{table-sizes, declared-words-sizes, read-back}
+use Rattle.laws.proofs.OrderWords.{table-sizes, declared-words-sizes, declared-read-back}
 
 -- rows held alike
 pub record Held-alike (held held′ : List Name) : Type 0 where
@@ -54,11 +54,11 @@ fit-alike space t held held′ h = let s = counts-sizes t in
 -- THE WORDS OF declared
 
 pub read-after : (c : Chain) → Nowhere unnamed c → (words : List ℕ) (held : List Name) → read-declared words ≡ held → read-declared (declared-after held (declared-rows c held) words) ≡ declared-rows c held
-read-after c p words [] q = read-back (all-declared (declared c) []) words (symbols-of-tree c p)
+read-after c p words [] q = declared-read-back (all-declared (declared c) []) words (symbols-of-tree c p)
 read-after c p words (n ∷ ns) q = q
 
 pub read-full : (words : List ℕ) (held : List Name) → read-declared words ≡ held → read-declared (declared-after held [] words) ≡ held
-read-full words [] q = read-back [] words tt
+read-full words [] q = declared-read-back [] words tt
 read-full words (n ∷ ns) q = q
 
 pub after-sizes : (held held′ rows rows′ : List Name) (words words′ : List ℕ) → length held ≡ length held′ → length rows ≡ length rows′ → length words ≡ length words′

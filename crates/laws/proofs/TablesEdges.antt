@@ -6,7 +6,7 @@
 use Prim.Native.Nat.{ℕ, _+_}
 use native.Mathlib.Omega.{arith}
 use mathlib.Core.Path.{_≡_, refl, sym, ap, _∙_, subst₂}
-use mathlib.Core.Bool.{Bool, true, false, _||_, or-assoc}
+use mathlib.Core.Bool.{Bool, true, false, _||_, or-assoc, or-self}
 use mathlib.Core.List.{List, [], _∷_}
 use Rattle.std.proofs.shelf.Tests.{and-parts, and-from}
 use Rattle.rules.specs.Tree.{Name, if_then_else_}
@@ -15,7 +15,7 @@ use Rattle.rules.specs.Counting.{Event}
 use Rattle.rules.specs.Tables.{EdgeRow, Counts, some-row, edge-of, reads, writes}
 use Rattle.rules.specs.Rings.{total}
 use Rattle.rules.proofs.SameNames.{same-eq, same-refl}
-use Rattle.laws.proofs.Basics.{or-swap, or-twice, Commutes}
+use Rattle.laws.proofs.Basics.{or-swap, Commutes}
 use Rattle.laws.proofs.TablesRows.{with-change, some-with-change, total-with-change}
 use Rattle.laws.proofs.TablesFilled.{new-edge, adds-edge, held-by, all-held, entered}
 
@@ -33,7 +33,7 @@ some-edge p rs = some-row (λ r. p (r .from) (r .to)) rs
 
 some-edge-changed : (p : Name → Name → Bool) (a b : Name) (e : Event) (rs : List EdgeRow) → some-edge p (with-change (edge-of a b) (new-edge a b) (adds-edge e) rs) ≡ (p a b || some-edge p rs)
 some-edge-changed p a b e rs = some-with-change (λ r. p (r .from) (r .to)) (edge-of a b) (new-edge a b) (adds-edge e) (p a b) refl
-  (λ r q. let (x, y) = edge-eq a b r q in subst₂ (λ (u v : Name). p u v ≡ (p a b || p u v)) x y (or-twice (p a b))) rs
+  (λ r q. let (x, y) = edge-eq a b r q in subst₂ (λ (u v : Name). p u v ≡ (p a b || p u v)) x y (sym (or-self (p a b)))) rs
 
 -- a test of the edges that an event brings
 abbrev pub held-edge : (Name → Name → Bool) → List Name → Name → Bool

@@ -9,7 +9,7 @@
 use Prim.Native.Nat.{_+_}
 use native.Mathlib.Omega.{arith}
 use mathlib.Core.Path.{_≡_, refl, sym, ap, _∙_, subst}
-use mathlib.Core.Bool.{Bool, true, false, cond, _&&_, _||_, or-assoc}
+use mathlib.Core.Bool.{Bool, true, false, cond, _&&_, _||_, or-assoc, or-self, or-comm}
 use mathlib.Core.List.{List, [], _∷_}
 use Rattle.std.proofs.shelf.Tests.{false≢true}
 use Rattle.rules.specs.Tree.{Name}
@@ -17,7 +17,7 @@ use Rattle.rules.specs.Names.{same}
 use Rattle.rules.specs.Counting.{Event}
 use Rattle.rules.specs.Tables.{NameRow, EdgeRow, Counts, some-row, fresh, look, row-of, edge-of, reads, writes}
 use Rattle.rules.proofs.SameNames.{same-eq}
-use Rattle.laws.proofs.Basics.{or-swap, or-twice, or-turn, cond-ap, cond-nest, cond-commutes, by-same, Commutes}
+use Rattle.laws.proofs.Basics.{or-swap, or-turn, cond-ap, cond-nest, cond-commutes, by-same, Commutes}
 use Rattle.laws.proofs.TablesRows.{with-row, with-change, some-with-row, some-with-change}
 
 -- an edge's row before anything is counted
@@ -85,11 +85,7 @@ pub look-entered : (m : Name) (e : Event) (c : Counts) → look m (entered e c .
 look-entered m e c = look-with-change m (e .name) e (all-held e (e .holders) c .names) ∙ ap (seen m e) (look-all-held m e (e .holders) c)
 
 or-turned : (a b c : Bool) → ((a || b) || c) ≡ ((a || c) || b)
-or-turned true b c = refl
-or-turned false true true = refl
-or-turned false true false = refl
-or-turned false false true = refl
-or-turned false false false = refl
+or-turned a b c = or-assoc a b c ∙ (ap (λ (d : Bool). a || d) (or-comm b c) ∙ sym (or-assoc a c b))
 
 adds-swap : (x y : Event) (r : NameRow) → adds x (adds y r) ≡ adds y (adds x r)
 adds-swap x y r =
@@ -110,7 +106,7 @@ some-name-with p n rs = some-with-row (λ r. p (r .name)) (row-of n) (fresh n) (
 
 some-name-changed : (p : Name → Bool) (n : Name) (e : Event) (rs : List NameRow) → some-name p (with-change (row-of n) (fresh n) (adds e) rs) ≡ (p n || some-name p rs)
 some-name-changed p n e rs = some-with-change (λ r. p (r .name)) (row-of n) (fresh n) (adds e) (p n) refl
-  (λ r q. subst (λ (x : Name). p x ≡ (p n || p x)) (same-eq n (r .name) q) (or-twice (p n))) rs
+  (λ r q. subst (λ (x : Name). p x ≡ (p n || p x)) (same-eq n (r .name) q) (sym (or-self (p n)))) rs
 
 -- a test of the names that an event's holders bring
 abbrev pub held-name : (Name → Bool) → List Name → Name → Bool
