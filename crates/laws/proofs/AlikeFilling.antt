@@ -14,7 +14,7 @@ use lib.ListN.{length}
 use Rattle.rules.specs.Tree.{Chain, Name}
 use Rattle.rules.specs.Names.{among, declared}
 use Rattle.rules.specs.Counting.{events-of}
-use Rattle.rules.specs.Tables.{Room, declared-width, declared-in-words, read-declared}
+use Rattle.rules.specs.Tables.{declared-width, Room, declared-in-words, read-declared}
 use Rattle.rules.specs.Calls.{declared-after}
 use Rattle.laws.proofs.TablesRoom.{all-declared}
 use Rattle.laws.proofs.TablesPass.{counts, declared-rows, declared-fit, tables-fit}

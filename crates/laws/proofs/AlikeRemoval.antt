@@ -9,7 +9,7 @@ use mathlib.Core.Bool.{Bool, false, _||_}
 use Rattle.rules.specs.Tree.{Head, Chain, Name, below, unnumbered}
 use Rattle.rules.specs.Tree.Chain.{end, link}
 use Rattle.rules.specs.Names.{among}
-use Rattle.rules.specs.Removal.{Config, By, Left, at-root, treat}
+use Rattle.rules.specs.Removal.{Config, By, at-root, Left, treat}
 use Rattle.rules.specs.Calls.{Filled, pass-by}
 use Rattle.rules.specs.Law.{Shuffled, item-at, Same-lost}
 use Rattle.laws.proofs.KeepsApart.{keeps-apart}
@@ -24,6 +24,7 @@ use Rattle.laws.proofs.OrderNowhere.{nowhere-below, nowhere-treated, asm-strin
 use Rattle.laws.proofs.OrderItems.{Items, remains-at}
 use Rattle.laws.proofs.OrderTwins.{Twins, root-items}
 
+-- what is left of two trees is alike: each lost what the other lost, twins are left, and both were changed or none
 pub record Left-alike (c d : Chain) (x y : Left) : Type 0 where
   pub lost : Same-lost c d (x .chain) (y .chain)
   pub twins : Twins (x .chain) (y .chain)

@@ -18,10 +18,10 @@ use Rattle.rules.specs.Refusals.Outcome.{fine, refused}
 use Rattle.rules.specs.Tables.{declared-width, names-width, edges-width, read-declared}
 use Rattle.rules.specs.Judges.{Lawful}
 use Rattle.rules.specs.Removal.{Config}
-use Rattle.rules.specs.Calls.{State, Handed, Pass, After, Call, Answer, handed-fit, zeroed, cleared, pass-once, passes-from, reached-by, repeat-ended, call-fitting, unfit-answer, call, calls, final}
+use Rattle.rules.specs.Calls.{State, Handed, handed-fit, zeroed, cleared, Pass, After, pass-once, passes-from, reached-by, repeat-ended, Call, Answer, call-fitting, unfit-answer, call, calls, final}
 use Rattle.rules.specs.Calls.Call.{pass, reset, repeat}
 use Rattle.rules.specs.Calls.Answer.{pass-answer, repeat-answer}
-use Rattle.rules.specs.Law.{begun-on, tree-of, told, Telling, tellings, Reordered, Begun-alike, Same-lost}
+use Rattle.rules.specs.Law.{begun-on, tree-of, Reordered, Begun-alike, told, Telling, tellings, Same-lost}
 use Rattle.laws.specs.Parts.{Order-law}
 use Rattle.laws.proofs.Runs.{turn}
 use Rattle.laws.proofs.OrderCount.{reached-turned}

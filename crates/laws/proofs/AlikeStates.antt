@@ -18,11 +18,11 @@ use Rattle.rules.specs.Grammar.{root}
 use Rattle.rules.specs.Refusals.{Outcome}
 use Rattle.rules.specs.Refusals.Outcome.{fine, refused}
 use Rattle.rules.specs.Check.{tree-fits}
-use Rattle.rules.specs.Tables.{Room, room, names-width, edges-width, names-in-words, edges-in-words, read-declared}
+use Rattle.rules.specs.Tables.{names-width, edges-width, Room, room, names-in-words, edges-in-words, read-declared}
 use Rattle.rules.specs.Rings.{discount}
 use Rattle.rules.specs.Judges.{Lawful}
 use Rattle.rules.specs.Removal.{Config, By, at-root, treat}
-use Rattle.rules.specs.Calls.{State, Filled, Pass, After, most-table-words, handed-fit, zeroed, cleared, filled-up, fill-tables, pass-by, remove, passed, pass-filled, pass-checked, pass-once}
+use Rattle.rules.specs.Calls.{State, most-table-words, handed-fit, zeroed, cleared, filled-up, Filled, fill-tables, Pass, pass-by, remove, After, passed, pass-filled, pass-checked, pass-once}
 use Rattle.rules.specs.Law.{tree-of, Same-lost}
 use Rattle.laws.proofs.TablesRoom.{Bounded}
 use Rattle.laws.proofs.TablesPass.{declared-rows, tables-of, tables-fit, fill-tables-bounded}
@@ -41,6 +41,7 @@ tree s = tree-of (s .tree)
 abbrev pub held : State → List Name
 held s = read-declared (s .declared)
 
+-- states that tell the same: twins for trees, tables of one length, the same declared names
 pub record Even (s u : State) : Type 0 where
   pub found : s .tree ≡ fine (tree s)
   pub found-too : u .tree ≡ fine (tree u)

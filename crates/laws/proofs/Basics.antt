@@ -111,10 +111,12 @@ each-member P k (m ∷ ks) all g = ⊎-elim (λ e. subst P (sym (eqb-true k m e)
 
 -- FOLDS
 
+-- each element of a list in turn
 abbrev pub fold : {E R : Type 0} → (E → R → R) → List E → R → R
 fold f [] r = r
 fold f (x ∷ xs) r = fold f xs (f x r)
 
+-- two steps may be exchanged
 abbrev pub Commutes : {E R : Type 0} → (E → R → R) → Type 0
 Commutes {E} {R} f = (x y : E) (r : R) → f x (f y r) ≡ f y (f x r)
 

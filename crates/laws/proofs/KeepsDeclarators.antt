@@ -16,14 +16,14 @@ use lib.Dec.{eqb}
 use Rattle.std.proofs.shelf.Tests.{cond-both, both-ways, cases-bool, and-parts, and-from, eq-eqb, eqb-true, not-from-false}
 use Rattle.rules.specs.Tree.{Head, Chain, _is_, flagged, isEnd, after, alone, append}
 use Rattle.rules.specs.Tree.Chain.{end, link}
-use Rattle.rules.specs.Kinds.{expression, pattern, plain-expression, var-declaration, for-statement, with-statement, declarator, only}
+use Rattle.rules.specs.Kinds.{var-declaration, for-statement, with-statement, declarator, plain-expression, expression, pattern, only}
 use Rattle.rules.specs.Grammar.{Way}
 use Rattle.rules.specs.Grammar.Part.{one, maybe}
 use Rattle.rules.specs.Held.{Formed}
-use Rattle.rules.specs.Removal.{By, Place, Left, Verdict, place-inside, entered, has-list, first-acts, name-goes, all-go, declarator-goes, become, values, joined, verdict, done, treated, treat}
+use Rattle.rules.specs.Removal.{By, Place, place-inside, first-acts, has-list, entered, name-goes, all-go, declarator-goes, Verdict, verdict, become, values, joined, Left, done, treated, treat}
 use Rattle.rules.specs.Removal.Verdict.{stays, sweeps, empties, unlinks, restates, yields, unwraps}
 use Rattle.laws.proofs.Formed.{list-of, listed, list-link, formed-one, one-link, maybe-taken, binding-ways, declarator-children}
-use Rattle.laws.proofs.Verdicts.{Means, means, Emptying, emptying-kind, Unlinking, Restated}
+use Rattle.laws.proofs.Verdicts.{Emptying, Unlinking, Restated, Means, means, emptying-kind}
 use Rattle.laws.proofs.Verdicts.Unlinking.{declares, specifies}
 use Rattle.laws.proofs.KeepsTable.{declarators}
 

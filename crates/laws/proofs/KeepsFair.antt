@@ -14,7 +14,7 @@ use mathlib.Core.Logic.{⊎-elim}
 use lib.Dec.{eqb}
 use Rattle.std.proofs.shelf.Tests.{cond-both, and-parts, and-from, both-ways, or-cases, or-left, not-true}
 use Rattle.rules.specs.Tree.{if_then_else_}
-use Rattle.rules.specs.Kinds.{member, specifier, empty-statement, expression-statement, var-declaration, declarator, identifier, literal, function-expression, class-expression, arrow, plain-expression, object, call-expression, delete-expression, assignment}
+use Rattle.rules.specs.Kinds.{specifier, empty-statement, expression-statement, var-declaration, declarator, identifier, literal, function-expression, class-expression, arrow, plain-expression, object, call-expression, delete-expression, assignment, member}
 use Rattle.rules.specs.Grammar.{Part, Way, go-on, step}
 use Rattle.rules.specs.Grammar.Part.{one, maybe, many}
 use Rattle.laws.proofs.Basics.{Each, each-member}

@@ -13,7 +13,7 @@ use mathlib.Core.List.{List, [], _∷_, _++_, append-nil, append-assoc}
 use Rattle.rules.specs.Tree.{Head, Chain, Name, if_then_else_, reached, unnumbered}
 use Rattle.rules.specs.Tree.Chain.{end, link}
 use Rattle.rules.specs.Kinds.{module-root, script-root}
-use Rattle.rules.specs.Names.{same, among, namesOf, keep, under-nothing, declares, under, declaring, declared}
+use Rattle.rules.specs.Names.{same, among, namesOf, keep, under-nothing, under, declares, declaring, declared}
 use Rattle.rules.specs.Counting.{Event, Found, outermost, events-of}
 use Rattle.rules.specs.Tables.{no-rows}
 use Rattle.rules.specs.Law.{Shuffled}

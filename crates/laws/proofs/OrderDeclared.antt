@@ -15,9 +15,9 @@ use lib.ListN.{length}
 use Rattle.std.proofs.shelf.Tests.{true≢false, cases-bool, or-cases, and-parts, not-true, eqb-true}
 use Rattle.rules.specs.Tree.{Head, Chain, Name, if_then_else_, _is_, nameOf}
 use Rattle.rules.specs.Tree.Chain.{end, link}
-use Rattle.rules.specs.Kinds.{member, definition-expression, specifier, fn-declaration, class-declaration, name-pattern, property-name}
+use Rattle.rules.specs.Kinds.{specifier, fn-declaration, class-declaration, name-pattern, property-name, member, definition-expression}
 use Rattle.rules.specs.Grammar.{named}
-use Rattle.rules.specs.Names.{same, among, namesOf, binds, keep, Under, under, under-nothing, declares, declaring, declared}
+use Rattle.rules.specs.Names.{same, among, namesOf, binds, keep, Under, under-nothing, under, declares, declaring, declared}
 use Rattle.rules.specs.Tables.{some-row}
 use Rattle.rules.proofs.SameNames.{same-eq, same-refl}
 use Rattle.laws.proofs.Basics.{or-swap, each-member}

@@ -9,7 +9,7 @@ use mathlib.Core.Bool.{Bool, true, false, _&&_}
 use lib.Dec.{eqb}
 use Rattle.rules.specs.Tree.{Head, Chain, _is_, below}
 use Rattle.rules.specs.Tree.Chain.{end, link}
-use Rattle.rules.specs.Kinds.{empty-statement, expression-statement, plain-expression, literal, asm-symbol}
+use Rattle.rules.specs.Kinds.{empty-statement, expression-statement, literal, plain-expression, asm-symbol}
 use Rattle.rules.specs.Removal.{By, Place, asm, become, treat}
 use Rattle.rules.specs.Law.{Without-asm}
 use Rattle.laws.proofs.KeepsEverywhere.{Everywhere, treat-all}
@@ -44,6 +44,7 @@ nowhere-treated test unmade by p c f = treat-all (λ n h. test h ≡ false) (λ 
 
 -- THE STRING 'use asm'
 
+-- a string 'use asm'
 abbrev pub asm-string : Head → Bool
 asm-string h = h is literal && eqb (h .symbol) asm-symbol
 

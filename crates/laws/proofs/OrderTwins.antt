@@ -15,11 +15,11 @@ use lib.Dec.{eqb, leb}
 use Rattle.std.proofs.shelf.Tests.{true≢false, false≢true, cases-bool, or-cases, and-parts, and-left, and-right, not-true, eqb-true, leb-true, lt-leb}
 use Rattle.rules.specs.Tree.{Head, Chain, if_then_else_, below, unnumbered}
 use Rattle.rules.specs.Tree.Chain.{end, link}
-use Rattle.rules.specs.Kinds.{member, known, module-root, script-root, import-item, export-declaration, export-list, export-default, expression, statement, item}
-use Rattle.rules.specs.Grammar.{Way, named, flags-fit, name-fits, words-fit, children-of, step, root}
+use Rattle.rules.specs.Kinds.{module-root, script-root, import-item, export-declaration, export-list, export-default, member, known, expression, statement, item}
+use Rattle.rules.specs.Grammar.{named, name-fits, flags-fit, words-fit, Way, children-of, step, root}
 use Rattle.rules.specs.Grammar.Part.{one}
 use Rattle.rules.specs.Held.{Numbers, Apart, Formed}
-use Rattle.rules.specs.Law.{Shuffled, root-kind, item-at, Reordered}
+use Rattle.rules.specs.Law.{Shuffled, root-kind, Reordered, item-at}
 use Rattle.rules.proofs.Sounds.{check-sound}
 use Rattle.laws.proofs.Basics.{each-member}
 use Rattle.laws.proofs.Formed.{list-of, listed}
@@ -41,6 +41,7 @@ pub record Twins (c d : Chain) : Type 0 where
 
 -- THE ROOT
 
+-- the kind of a Module or Script
 abbrev kind-of : (module-tree : Bool) → ℕ
 kind-of m = if m then module-root else script-root
 

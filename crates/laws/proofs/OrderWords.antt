@@ -12,7 +12,7 @@ use lib.ListN.{length, drop, replicate}
 use Rattle.std.proofs.shelf.Lists.{length-append, length-drop, length-replicate}
 use Rattle.rules.specs.Tree.{Name}
 use Rattle.rules.specs.Tables.{NameRow, EdgeRow, Counts, declared-width, declared-in-words, names-in-words, edges-in-words, table, read-declared}
-use Rattle.rules.specs.Rings.{discount, discount-rows}
+use Rattle.rules.specs.Rings.{discount-rows, discount}
 use Rattle.laws.proofs.OrderDeclared.{Symbols}
 
 -- SIZES

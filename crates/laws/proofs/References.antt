@@ -17,7 +17,7 @@ use Rattle.rules.specs.Tables.{Counts, look}
 use Rattle.rules.specs.Rings.{discount}
 use Rattle.rules.specs.Removal.{Config, at-root, unused, never-read, taken, gave}
 use Rattle.rules.specs.Calls.{Pass, pass-by, final}
-use Rattle.rules.specs.Law.{In, Reference, Inside-ring, begun-on, tree-of}
+use Rattle.rules.specs.Law.{In, begun-on, tree-of, Reference, Inside-ring}
 use Rattle.laws.specs.Parts.{References-law}
 use Rattle.laws.proofs.KeepsFormed.{keeps-formed}
 use Rattle.laws.proofs.Runs.{Later, begun-ready, Made, calls-follow}

@@ -21,7 +21,7 @@ use Rattle.rules.specs.Check.{check}
 use Rattle.rules.specs.Held.{Formed}
 use Rattle.rules.specs.Tables.{Room, room, read-declared}
 use Rattle.rules.specs.Removal.{Config, By, at-root, treat}
-use Rattle.rules.specs.Calls.{State, Handed, Filled, Pass, After, Call, Answer, handed-fit, cleared, filled-up, fill-tables, pass-by, passed, pass-filled, pass-checked, pass-once, passes-from, reached-by, call-fitting, unfit-answer, call, calls, remove, final, passes-made}
+use Rattle.rules.specs.Calls.{State, Handed, handed-fit, cleared, filled-up, Filled, fill-tables, Pass, pass-by, remove, After, passed, pass-filled, pass-checked, pass-once, passes-from, reached-by, Call, Answer, call-fitting, unfit-answer, call, calls, final, passes-made}
 use Rattle.rules.specs.Calls.Call.{pass, reset, repeat}
 use Rattle.rules.specs.Law.{In, begun-on, tree-of}
 use Rattle.rules.proofs.Sounds.{check-sound}

@@ -28,6 +28,7 @@ edge-refl a b = and-from (same a a) (same b b) (same-refl a) (same-refl b)
 
 -- THE EDGES THERE ARE
 
+-- some edge passes a test of its two names
 abbrev pub some-edge : (Name → Name → Bool) → List EdgeRow → Bool
 some-edge p rs = some-row (λ r. p (r .from) (r .to)) rs
 
@@ -47,6 +48,7 @@ some-edge-held p e (h ∷ hs) c =
   ∙ (ap (λ (z : Bool). held-edge p hs (e .name) || z) (some-edge-changed p h (e .name) e (c .edges))
   ∙ (or-swap (held-edge p hs (e .name)) (p h (e .name)) (some-edge p (c .edges)) ∙ sym (or-assoc (p h (e .name)) (held-edge p hs (e .name)) (some-edge p (c .edges)))))
 
+-- the same after an event
 abbrev pub edged : (Name → Name → Bool) → Event → Bool → Bool
 edged p e b = held-edge p (e .holders) (e .name) || b
 
@@ -68,6 +70,7 @@ abbrev pub weighs : (assigns : Bool) → Event → ℕ
 weighs true e = writes e
 weighs false e = reads e
 
+-- the weights of the edges that pass a test
 abbrev pub weights : (assigns : Bool) → (Name → Name → Bool) → List EdgeRow → ℕ
 weights a p rs = total (λ r. p (r .from) (r .to)) (weight a) rs
 

@@ -78,6 +78,7 @@ look-all-held m e [] c = refl
 look-all-held m e (h ∷ hs) c =
   look-all-held m e hs (held-by e h c) ∙ (look-with-row m (e .name) (with-row (row-of h) (fresh h) (c .names)) ∙ look-with-row m h (c .names))
 
+-- a name's row after an event
 abbrev pub seen : Name → Event → NameRow → NameRow
 seen m e r = cond (same m (e .name)) (adds e r) r
 
@@ -98,6 +99,7 @@ seen-commutes m x y r = cond-commutes (same m (x .name)) (same m (y .name)) (add
 
 -- THE NAMES THERE ARE
 
+-- some name with a row passes a test
 abbrev pub some-name : (Name → Bool) → List NameRow → Bool
 some-name p rs = some-row (λ r. p (r .name)) rs
 
@@ -120,6 +122,7 @@ some-name-held p e (h ∷ hs) c =
   ∙ (ap (λ (z : Bool). held-name p hs (e .name) || z) (some-name-with p (e .name) (with-row (row-of h) (fresh h) (c .names)) ∙ ap (λ (z : Bool). p (e .name) || z) (some-name-with p h (c .names)))
   ∙ or-turn (held-name p hs (e .name)) (p (e .name)) (p h) (some-name p (c .names)))
 
+-- the same after an event
 abbrev pub named : (Name → Bool) → Event → Bool → Bool
 named p e b = (p (e .name) || held-name p (e .holders) (e .name)) || b
 
@@ -133,6 +136,7 @@ named-commutes p x y r = or-swap (p (x .name) || held-name p (x .holders) (x .na
 
 -- THE ENTRIES
 
+-- some entry's name passes a test
 abbrev pub some-entry : (Name → Bool) → List NameRow → Bool
 some-entry p rs = some-row (λ r. r .entry && p (r .name)) rs
 
@@ -144,6 +148,7 @@ some-entry-held p e [] c = refl
 some-entry-held p e (h ∷ hs) c =
   some-entry-held p e hs (held-by e h c) ∙ (some-entry-with p (e .name) (with-row (row-of h) (fresh h) (c .names)) ∙ some-entry-with p h (c .names))
 
+-- the same after an event
 abbrev pub entries : (Name → Bool) → Event → Bool → Bool
 entries p e b = (e .entry && p (e .name)) || b
 

@@ -15,7 +15,7 @@ use Rattle.rules.specs.Tree.{Chain, Name}
 use Rattle.rules.specs.Refusals.Outcome.{fine}
 use Rattle.rules.specs.Names.{declared}
 use Rattle.rules.specs.Counting.{events-of}
-use Rattle.rules.specs.Tables.{Counts, Room, no-rows, fill}
+use Rattle.rules.specs.Tables.{Counts, no-rows, Room, fill}
 use Rattle.rules.specs.Calls.{Filled, fill-declared, fill-tables}
 use Rattle.laws.proofs.TablesFilled.{filled}
 use Rattle.laws.proofs.TablesRoom.{Bounded, then-bounded, all-declared, declare-bounded, fits, fill-bounded}
@@ -38,6 +38,7 @@ declared-fit space c (n ∷ ns) = true
 abbrev pub tables-of : Chain → (held : List Name) → Filled
 tables-of c held = record { declared = declared-rows c held; counts = counts c }
 
+-- all of them fit
 abbrev pub tables-fit : Room → Chain → (held : List Name) → Bool
 tables-fit space c held = declared-fit space c held && fits space (counts c)
 

@@ -20,7 +20,7 @@ use Rattle.rules.specs.Refusals.{Outcome, andThen, declared-full, names-full, e
 use Rattle.rules.specs.Refusals.Outcome.{fine, refused}
 use Rattle.rules.specs.Names.{same}
 use Rattle.rules.specs.Counting.{Event}
-use Rattle.rules.specs.Tables.{Counts, Room, no-rows, some-row, need, fresh, row-of, edge-of, need-name, need-edge, grow-edge, grow-name, hold, enter, fill, declare}
+use Rattle.rules.specs.Tables.{Counts, no-rows, Room, some-row, need, declare, fresh, row-of, edge-of, need-name, need-edge, grow-edge, grow-name, hold, enter, fill}
 use Rattle.rules.proofs.SameNames.{same-refl}
 use Rattle.laws.proofs.TablesRows.{with-row, with-change, change-with, with-row-there, with-row-new}
 use Rattle.laws.proofs.TablesFilled.{new-edge, adds-edge, adds, held-by, all-held, entered, filled}

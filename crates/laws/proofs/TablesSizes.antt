@@ -26,6 +26,7 @@ module _ {Row K : Type 0} (key : Row → K) (eq : K → K → Bool) where
   Single [] = Unit {0}
   Single (r ∷ rs) = (has-key (key r) rs ≡ false) × Single rs
 
+  -- the rows without the one that has this key
   abbrev without : K → List Row → List Row
   without k [] = []
   without k (r ∷ rs) = if eq k (key r) then rs else r ∷ without k rs
