@@ -12,6 +12,8 @@ use mathlib.Core.List.{List, [], _∷_}
 use lib.Dec.{leb}
 use lib.ListN.{length}
 use Rattle.rules.specs.Tree.{Chain, Name}
+use Rattle.rules.specs.Grammar.{root}
+use Rattle.rules.specs.Held.{Formed}
 use Rattle.rules.specs.Names.{among, declared}
 use Rattle.rules.specs.Counting.{events-of}
 use Rattle.rules.specs.Tables.{declared-width, Room, declared-in-words, read-declared}
@@ -20,8 +22,7 @@ use Rattle.laws.proofs.TablesRoom.{all-declared}
 use Rattle.laws.proofs.TablesPass.{counts, declared-rows, declared-fit, tables-fit}
 use Rattle.laws.proofs.AlikeSizes.{tidy-filled, names-sizes, edges-sizes}
 use Rattle.laws.proofs.OrderCount.{Turned, counts-turned, names-turned}
-use Rattle.laws.proofs.OrderNowhere.{Nowhere}
-use Rattle.laws.proofs.OrderDeclared.{declared-names, declared-sizes, unnamed, symbols-of-tree}
+use Rattle.laws.proofs.OrderDeclared.{declared-names, declared-sizes, symbols-of-tree}
 use Rattle.laws.proofs.OrderWords.{table-sizes, declared-words-sizes, declared-read-back}
 
 -- rows held alike
@@ -53,7 +54,7 @@ fit-alike space t held held′ h = let s = counts-sizes t in
 
 -- THE WORDS OF declared
 
-pub read-after : (c : Chain) → Nowhere unnamed c → (words : List ℕ) (held : List Name) → read-declared words ≡ held → read-declared (declared-after held (declared-rows c held) words) ≡ declared-rows c held
+pub read-after : (c : Chain) → Formed root c → (words : List ℕ) (held : List Name) → read-declared words ≡ held → read-declared (declared-after held (declared-rows c held) words) ≡ declared-rows c held
 read-after c p words [] q = declared-read-back (all-declared (declared c) []) words (symbols-of-tree c p)
 read-after c p words (n ∷ ns) q = q
 

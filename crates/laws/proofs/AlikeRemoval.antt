@@ -20,7 +20,7 @@ use Rattle.laws.proofs.UnnumberedRemoval.{treat-unnumbered}
 use Rattle.laws.proofs.OrderCount.{root-of, Turned}
 use Rattle.laws.proofs.OrderCount.Turned.{roots}
 use Rattle.laws.proofs.OrderRemoval.{top, not-in-for, remains, remains-shuffled, changed-shuffled, remains-unnumbered, root-treated}
-use Rattle.laws.proofs.OrderNowhere.{nowhere-below, nowhere-treated, asm-string, asm-unmade, asm-free}
+use Rattle.laws.proofs.OrderAsm.{without-treated, asm-free}
 use Rattle.laws.proofs.OrderItems.{Items, remains-at}
 use Rattle.laws.proofs.OrderTwins.{Twins, root-items}
 
@@ -50,10 +50,10 @@ module _ (by : By) (unseen : (c : Chain) → (by .config .acts) (unnumbered c) �
   roots-alike m h g {cs} {ds} s t =
     let c = link (root-of m h) cs end in
     let d = link (root-of m g) ds end in
-    let p = root-treated by m h cs (asm-free cs (nowhere-below asm-string c (t .without-asm))) in
+    let p = root-treated by m h cs (asm-free cs (t .without-asm .1)) in
     let i = root-items m h cs (t .formed) (t .apart) in
     let j = root-items m g ds (t .formed-too) (t .apart-too) in
-    let q = root-treated by m g ds (asm-free ds (nowhere-below asm-string d (t .without-asm-too))) in
+    let q = root-treated by m g ds (asm-free ds (t .without-asm-too .1)) in
     record {
       lost = λ a b e. ap (λ (l : Left). item-at a (below (l .chain))) p ∙ (lost-alike m cs ds i j a b e ∙ sym (ap (λ (l : Left). item-at b (below (l .chain))) q));
       twins = record {
@@ -62,8 +62,8 @@ module _ (by : By) (unseen : (c : Chain) → (by .config .acts) (unnumbered c) �
         formed-too = keeps-formed by d (t .formed-too);
         apart = keeps-apart by at-root c (t .apart);
         apart-too = keeps-apart by at-root d (t .apart-too);
-        without-asm = nowhere-treated asm-string asm-unmade by at-root c (t .without-asm);
-        without-asm-too = nowhere-treated asm-string asm-unmade by at-root d (t .without-asm-too) };
+        without-asm = without-treated by at-root c (t .without-asm);
+        without-asm-too = without-treated by at-root d (t .without-asm-too) };
       changed = ap (λ (l : Left). l .changed) p ∙ (ap (λ (b : Bool). b || false) (changed-alike m cs ds s) ∙ sym (ap (λ (l : Left). l .changed) q)) }
 
   turned-alike : {c d : Chain} → Turned c d → Twins c d → Left-alike c d (treat by at-root c) (treat by at-root d)

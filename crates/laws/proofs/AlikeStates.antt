@@ -14,7 +14,6 @@ use lib.Dec.{leb}
 use lib.ListN.{length}
 use Rattle.std.proofs.shelf.Tests.{true≢false, false≢true}
 use Rattle.rules.specs.Tree.{Chain, Name}
-use Rattle.rules.specs.Grammar.{root}
 use Rattle.rules.specs.Refusals.{Outcome}
 use Rattle.rules.specs.Refusals.Outcome.{fine, refused}
 use Rattle.rules.specs.Check.{tree-fits}
@@ -29,7 +28,7 @@ use Rattle.laws.proofs.TablesPass.{declared-rows, tables-of, tables-fit, fill-
 use Rattle.laws.proofs.UnnumberedRemoval.{blind}
 use Rattle.laws.proofs.OrderCount.{counts-turned}
 use Rattle.laws.proofs.OrderWords.{table-sizes, names-words-sizes, edges-words-sizes}
-use Rattle.laws.proofs.OrderTwins.{Twins, formed-named}
+use Rattle.laws.proofs.OrderTwins.{Twins}
 use Rattle.laws.proofs.AlikeRemoval.{Left-alike, removed-alike, by-alike}
 use Rattle.laws.proofs.AlikeFilling.{Held-alike, rows-declared-alike, counts-sizes, fit-alike, read-after, read-full, after-sizes}
 
@@ -118,7 +117,7 @@ module _ (k : Config) (lawful : Lawful (k .acts)) where
       declared = after-sizes (held s) (held u) (declared-rows (tree s) (held s)) (declared-rows (tree u) (held u)) (s .declared) (u .declared) (e .holds .sizes) (rows .sizes) (e .declared);
       names = table-sizes names-width (names-in-words (discount c)) (names-in-words (discount d)) (s .names) (u .names) (names-words-sizes c d (sizes .0)) (e .names);
       edges = table-sizes edges-width (edges-in-words (discount c) (c .edges)) (edges-in-words (discount d) (d .edges)) (s .edges) (u .edges) (edges-words-sizes (discount c) (discount d) (c .edges) (d .edges) (sizes .1)) (e .edges);
-      holds = subst₂ Held-alike (sym (read-after (tree s) (formed-named root (tree s) (t .formed)) (s .declared) (held s) refl)) (sym (read-after (tree u) (formed-named root (tree u) (t .formed-too)) (u .declared) (held u) refl)) rows;
+      holds = subst₂ Held-alike (sym (read-after (tree s) (t .formed) (s .declared) (held s) refl)) (sym (read-after (tree u) (t .formed-too) (u .declared) (held u) refl)) rows;
       changed = ap₂ _||_ (e .changed) (l .changed) }
 
   -- tables that are filled, or full

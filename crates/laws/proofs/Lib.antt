@@ -36,7 +36,7 @@ pub mod UnnumberedCount
 pub mod UnnumberedRemoval
 pub mod OrderCount
 pub mod OrderRemoval
-pub mod OrderNowhere
+pub mod OrderAsm
 pub mod OrderItems
 pub mod OrderDeclared
 pub mod OrderWords

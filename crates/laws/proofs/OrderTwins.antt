@@ -3,31 +3,28 @@
 --   Twins                    trees as the runs keep them: roots over the same items in another order, formed by the table of kinds
 --   rooted-as                a checked tree is one root, of its kind, over its items
 --   formed-items, root-items its items are no expressions, each with its own number
---   formed-named             a record of a named kind has a symbol
 --   reordered-twins          the two trees of the law
 use Prim.Native.Nat.{ℕ}
 use native.Mathlib.Omega.{arith}
 use mathlib.Core.Path.{_≡_, refl, sym, _∙_, subst, subst₂}
-use mathlib.Core.Bool.{Bool, true, false, _&&_}
+use mathlib.Core.Bool.{Bool, true, false}
 use mathlib.Core.List.{List, [], _∷_}
 use mathlib.Core.Logic.{inl, inr}
 use lib.Dec.{eqb, leb}
-use Rattle.std.proofs.shelf.Tests.{true≢false, false≢true, cases-bool, or-cases, and-parts, and-left, and-right, not-true, eqb-true, leb-true, lt-leb}
+use Rattle.std.proofs.shelf.Tests.{true≢false, false≢true, cases-bool, or-cases, and-parts, and-left, eqb-true, leb-true, lt-leb}
 use Rattle.rules.specs.Tree.{Head, Chain, if_then_else_, below, unnumbered}
 use Rattle.rules.specs.Tree.Chain.{end, link}
-use Rattle.rules.specs.Kinds.{module-root, script-root, import-item, export-declaration, export-list, export-default, member, known, expression, statement, item}
-use Rattle.rules.specs.Grammar.{named, name-fits, flags-fit, words-fit, Way, children-of, step, root}
+use Rattle.rules.specs.Kinds.{module-root, script-root, import-item, export-declaration, export-list, export-default, member, expression, statement, item}
+use Rattle.rules.specs.Grammar.{root}
 use Rattle.rules.specs.Grammar.Part.{one}
 use Rattle.rules.specs.Held.{Numbers, Apart, Formed}
-use Rattle.rules.specs.Law.{Shuffled, root-kind, Reordered, item-at}
+use Rattle.rules.specs.Law.{Shuffled, root-kind, Without-asm, Reordered, item-at}
 use Rattle.rules.proofs.Sounds.{check-sound}
 use Rattle.laws.proofs.Basics.{each-member}
 use Rattle.laws.proofs.Formed.{list-of, listed}
 use Rattle.laws.proofs.OrderCount.{root-of, Turned}
 use Rattle.laws.proofs.OrderCount.Turned.{roots}
-use Rattle.laws.proofs.OrderNowhere.{Nowhere, asm-string, asm-nowhere}
 use Rattle.laws.proofs.OrderItems.{Items}
-use Rattle.laws.proofs.OrderDeclared.{unnamed}
 
 -- roots over the same items in another order, formed by the table of kinds, each record once, without 'use asm'
 pub record Twins (c d : Chain) : Type 0 where
@@ -36,8 +33,8 @@ pub record Twins (c d : Chain) : Type 0 where
   pub formed-too : Formed root d
   pub apart : Apart c
   pub apart-too : Apart d
-  pub without-asm : Nowhere asm-string c
-  pub without-asm-too : Nowhere asm-string d
+  pub without-asm : Without-asm c
+  pub without-asm-too : Without-asm d
 
 -- THE ROOT
 
@@ -107,19 +104,6 @@ sort-plain : (m : Bool) (k : ℕ) → items-sort m k ≡ true → expression k �
 sort-plain true = item-plain
 sort-plain false = statement-plain
 
--- THE NAMES
-
-symbol-fits : (h : Head) → words-fit h ≡ true → unnamed h ≡ false
-symbol-fits h w =
-  let fits = and-parts (known (h .kind) && flags-fit h) (name-fits h) w .1 in
-  elim (cases-bool (named (h .kind))) [
-    inl e ↦ and-right (named (h .kind)) (eqb (h .symbol) 0) (not-true (eqb (h .symbol) 0) (rw e at fits))
-  | inr e ↦ and-left (named (h .kind)) (eqb (h .symbol) 0) e ]
-
-pub formed-named : (ways : List Way) (c : Chain) → Formed ways c → Nowhere unnamed c
-formed-named ways end f = tt
-formed-named ways (link h cs rest) f = (symbol-fits h (f .0), formed-named (children-of h) cs (f .2), formed-named (step (h .kind) ways) rest (f .3))
-
 -- THE TWO TREES
 
 -- the items of a root
@@ -140,5 +124,5 @@ reordered-twins words others c d r =
     formed-too = t .formed;
     apart = s .apart;
     apart-too = t .apart;
-    without-asm = asm-nowhere c (r .without-asm);
-    without-asm-too = asm-nowhere d (r .without-asm-too) }
+    without-asm = r .without-asm;
+    without-asm-too = r .without-asm-too }
