@@ -117,7 +117,7 @@ module _ (k : Config) (lawful : Lawful (k .acts)) where
       declared = after-sizes (held s) (held u) (declared-rows (tree s) (held s)) (declared-rows (tree u) (held u)) (s .declared) (u .declared) (e .holds .sizes) (rows .sizes) (e .declared);
       names = table-sizes names-width (names-in-words (discount c)) (names-in-words (discount d)) (s .names) (u .names) (names-words-sizes c d (sizes .0)) (e .names);
       edges = table-sizes edges-width (edges-in-words (discount c) (c .edges)) (edges-in-words (discount d) (d .edges)) (s .edges) (u .edges) (edges-words-sizes (discount c) (discount d) (c .edges) (d .edges) (sizes .1)) (e .edges);
-      holds = subst₂ Held-alike (sym (read-after (tree s) (t .formed) (s .declared) (held s) refl)) (sym (read-after (tree u) (t .formed-too) (u .declared) (held u) refl)) rows;
+      holds = subst₂ Held-alike (sym (read-after (tree s) (t .one .formed) (s .declared) (held s) refl)) (sym (read-after (tree u) (t .other .formed) (u .declared) (held u) refl)) rows;
       changed = ap₂ _||_ (e .changed) (l .changed) }
 
   -- tables that are filled, or full
