@@ -1,62 +1,29 @@
 -- The filling of the tables for twins: both trees fill them, with rows that tell the same, or neither does.
 -- The names that declared holds already stay; else those of the tree are put in, and are read back from the words afterwards.
 --
---   declared-rows, declared-fit           the rows of declared that a pass has, and whether they fit
---   fill-tables-bounded                   filling with room and without
---   rows-declared-alike, fit-alike        for twins
+--   Held-alike                            declared names held alike
+--   rows-declared-alike, counts-sizes, fit-alike      the rows of twins, and whether they fit
 --   read-after, read-full                 what is read back after a pass, and after one that was refused
 use Prim.Native.Nat.{ℕ}
 use native.Mathlib.Omega.{arith}
 use mathlib.Core.Path.{_≡_, refl, ap, ap₂}
-use mathlib.Core.Bool.{Bool, true, _&&_}
+use mathlib.Core.Bool.{_&&_}
 use mathlib.Core.List.{List, [], _∷_}
 use lib.Dec.{leb}
 use lib.ListN.{length}
-use Rattle.std.proofs.shelf.Tests.{and-from, and-left, and-right}
 use Rattle.rules.specs.Tree.{Chain, Name}
+use Rattle.rules.specs.Grammar.{root}
+use Rattle.rules.specs.Held.{Formed}
 use Rattle.rules.specs.Names.{among, declared}
 use Rattle.rules.specs.Counting.{events-of}
-use Rattle.rules.specs.Tables.{Room, no-rows, fill, declared-width, declared-in-words, read-declared}
-use Rattle.rules.specs.Calls.{Filled, declared-after, fill-declared, fill-tables}
-use Rattle.laws.proofs.TablesRoom.{Bounded, then-bounded, all-declared, declare-bounded, fits, fill-bounded}
+use Rattle.rules.specs.Tables.{declared-width, Room, declared-in-words, read-declared}
+use Rattle.rules.specs.Calls.{declared-after}
+use Rattle.laws.proofs.TablesRoom.{all-declared}
+use Rattle.laws.proofs.TablesPass.{counts, declared-rows, declared-fit, tables-fit}
 use Rattle.laws.proofs.AlikeSizes.{tidy-filled, names-sizes, edges-sizes}
-use Rattle.laws.proofs.OrderCount.{Turned, counts, counts-turned, names-turned}
-use Rattle.laws.proofs.OrderNowhere.{Nowhere}
-use Rattle.laws.proofs.OrderDeclared.{declared-names, declared-sizes, unnamed, symbols-of-tree}
-use Rattle.laws.proofs.OrderWords.{table-sizes, declared-words-sizes, read-back}
-
--- the rows of declared that a pass has
-abbrev pub declared-rows : Chain → (held : List Name) → List Name
-declared-rows c [] = all-declared (declared c) []
-declared-rows c (n ∷ ns) = n ∷ ns
-
--- they fit
-abbrev declared-fit : Room → Chain → (held : List Name) → Bool
-declared-fit space c [] = leb (length (all-declared (declared c) [])) (space .declared)
-declared-fit space c (n ∷ ns) = true
-
--- the tables that a pass has, where they fit
-abbrev pub tables-of : Chain → (held : List Name) → Filled
-tables-of c held = record { declared = declared-rows c held; counts = counts c }
-
-abbrev pub tables-fit : Room → Chain → (held : List Name) → Bool
-tables-fit space c held = declared-fit space c held && fits space (counts c)
-
-fill-declared-bounded : (space : Room) (c : Chain) (held : List Name) → Bounded (declared-fit space c held) (declared-rows c held) (fill-declared space c held)
-fill-declared-bounded space c [] = declare-bounded (space .declared) (declared c)
-fill-declared-bounded space c (n ∷ ns) = (refl, refl)
-
-pub fill-tables-bounded : (space : Room) (c : Chain) (held : List Name) → Bounded (tables-fit space c held) (tables-of c held) (fill-tables space c held)
-fill-tables-bounded space c held =
-  let d = declared-fit space c held in
-  let f = fits space (counts c) in
-  then-bounded (fill-declared space c held) _ d (declared-rows c held) (d && f) (tables-of c held) (fill-declared-bounded space c held)
-    (λ p. then-bounded (fill space (events-of c) no-rows) _ f (counts c) (d && f) (tables-of c held) (fill-bounded space (events-of c))
-      (λ q. (and-from d f p q, refl))
-      (λ q. and-right d f q))
-    (λ p. and-left d f p)
-
--- TWINS
+use Rattle.laws.proofs.OrderCount.{Turned, counts-turned, names-turned}
+use Rattle.laws.proofs.OrderDeclared.{declared-names, declared-sizes, symbols-of-tree}
+use Rattle.laws.proofs.OrderWords.{table-sizes, declared-words-sizes, declared-read-back}
 
 -- rows held alike
 pub record Held-alike (held held′ : List Name) : Type 0 where
@@ -87,12 +54,12 @@ fit-alike space t held held′ h = let s = counts-sizes t in
 
 -- THE WORDS OF declared
 
-pub read-after : (c : Chain) → Nowhere unnamed c → (words : List ℕ) (held : List Name) → read-declared words ≡ held → read-declared (declared-after held (declared-rows c held) words) ≡ declared-rows c held
-read-after c p words [] q = read-back (all-declared (declared c) []) words (symbols-of-tree c p)
+pub read-after : (c : Chain) → Formed root c → (words : List ℕ) (held : List Name) → read-declared words ≡ held → read-declared (declared-after held (declared-rows c held) words) ≡ declared-rows c held
+read-after c p words [] q = declared-read-back (all-declared (declared c) []) words (symbols-of-tree c p)
 read-after c p words (n ∷ ns) q = q
 
 pub read-full : (words : List ℕ) (held : List Name) → read-declared words ≡ held → read-declared (declared-after held [] words) ≡ held
-read-full words [] q = read-back [] words tt
+read-full words [] q = declared-read-back [] words tt
 read-full words (n ∷ ns) q = q
 
 pub after-sizes : (held held′ rows rows′ : List Name) (words words′ : List ℕ) → length held ≡ length held′ → length rows ≡ length rows′ → length words ≡ length words′

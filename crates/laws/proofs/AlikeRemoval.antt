@@ -9,21 +9,20 @@ use mathlib.Core.Bool.{Bool, false, _||_}
 use Rattle.rules.specs.Tree.{Head, Chain, Name, below, unnumbered}
 use Rattle.rules.specs.Tree.Chain.{end, link}
 use Rattle.rules.specs.Names.{among}
-use Rattle.rules.specs.Removal.{Config, By, Left, at-root, treat}
+use Rattle.rules.specs.Removal.{Config, By, at-root, Left, treat}
 use Rattle.rules.specs.Calls.{Filled, pass-by}
 use Rattle.rules.specs.Law.{Shuffled, item-at, Same-lost}
-use Rattle.laws.proofs.KeepsApart.{keeps-apart}
-use Rattle.laws.proofs.KeepsFormed.{keeps-formed}
 use Rattle.laws.proofs.AlikeTables.{Alike}
 use Rattle.laws.proofs.AlikeRings.{rows-alike}
 use Rattle.laws.proofs.UnnumberedRemoval.{treat-unnumbered}
 use Rattle.laws.proofs.OrderCount.{root-of, Turned}
 use Rattle.laws.proofs.OrderCount.Turned.{roots}
 use Rattle.laws.proofs.OrderRemoval.{top, not-in-for, remains, remains-shuffled, changed-shuffled, remains-unnumbered, root-treated}
-use Rattle.laws.proofs.OrderNowhere.{nowhere-below, nowhere-treated, asm-string, asm-unmade, asm-free}
+use Rattle.laws.proofs.OrderAsm.{asm-free}
 use Rattle.laws.proofs.OrderItems.{Items, remains-at}
-use Rattle.laws.proofs.OrderTwins.{Twins, root-items}
+use Rattle.laws.proofs.OrderTwins.{Twins, orderly-treated, root-items}
 
+-- what is left of two trees is alike: each lost what the other lost, twins are left, and both were changed or none
 pub record Left-alike (c d : Chain) (x y : Left) : Type 0 where
   pub lost : Same-lost c d (x .chain) (y .chain)
   pub twins : Twins (x .chain) (y .chain)
@@ -49,20 +48,16 @@ module _ (by : By) (unseen : (c : Chain) → (by .config .acts) (unnumbered c) �
   roots-alike m h g {cs} {ds} s t =
     let c = link (root-of m h) cs end in
     let d = link (root-of m g) ds end in
-    let p = root-treated by m h cs (asm-free cs (nowhere-below asm-string c (t .without-asm))) in
-    let i = root-items m h cs (t .formed) (t .apart) in
-    let j = root-items m g ds (t .formed-too) (t .apart-too) in
-    let q = root-treated by m g ds (asm-free ds (nowhere-below asm-string d (t .without-asm-too))) in
+    let p = root-treated by m h cs (asm-free cs (t .one .without-asm .1)) in
+    let i = root-items m h cs (t .one .formed) (t .one .apart) in
+    let j = root-items m g ds (t .other .formed) (t .other .apart) in
+    let q = root-treated by m g ds (asm-free ds (t .other .without-asm .1)) in
     record {
       lost = λ a b e. ap (λ (l : Left). item-at a (below (l .chain))) p ∙ (lost-alike m cs ds i j a b e ∙ sym (ap (λ (l : Left). item-at b (below (l .chain))) q));
       twins = record {
         turned = subst₂ (λ (x y : Left). Turned (x .chain) (y .chain)) (sym p) (sym q) (roots m h g (left-shuffled m cs ds s));
-        formed = keeps-formed by c (t .formed);
-        formed-too = keeps-formed by d (t .formed-too);
-        apart = keeps-apart by at-root c (t .apart);
-        apart-too = keeps-apart by at-root d (t .apart-too);
-        without-asm = nowhere-treated asm-string asm-unmade by at-root c (t .without-asm);
-        without-asm-too = nowhere-treated asm-string asm-unmade by at-root d (t .without-asm-too) };
+        one = orderly-treated by c (t .one);
+        other = orderly-treated by d (t .other) };
       changed = ap (λ (l : Left). l .changed) p ∙ (ap (λ (b : Bool). b || false) (changed-alike m cs ds s) ∙ sym (ap (λ (l : Left). l .changed) q)) }
 
   turned-alike : {c d : Chain} → Turned c d → Twins c d → Left-alike c d (treat by at-root c) (treat by at-root d)

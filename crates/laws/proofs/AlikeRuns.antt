@@ -18,14 +18,14 @@ use Rattle.rules.specs.Refusals.Outcome.{fine, refused}
 use Rattle.rules.specs.Tables.{declared-width, names-width, edges-width, read-declared}
 use Rattle.rules.specs.Judges.{Lawful}
 use Rattle.rules.specs.Removal.{Config}
-use Rattle.rules.specs.Calls.{State, Handed, Pass, After, Call, Answer, handed-fit, zeroed, cleared, pass-once, passes-from, reached-by, repeat-ended, call-fitting, unfit-answer, call, calls, final}
+use Rattle.rules.specs.Calls.{State, Handed, handed-fit, zeroed, cleared, Pass, After, pass-once, passes-from, reached-by, repeat-ended, Call, Answer, call-fitting, unfit-answer, call, calls, final}
 use Rattle.rules.specs.Calls.Call.{pass, reset, repeat}
 use Rattle.rules.specs.Calls.Answer.{pass-answer, repeat-answer}
-use Rattle.rules.specs.Law.{begun-on, tree-of, told, Telling, tellings, Reordered, Begun-alike, Same-lost}
+use Rattle.rules.specs.Law.{begun-on, tree-of, Reordered, Begun-alike, told, Telling, tellings, Same-lost}
 use Rattle.laws.specs.Parts.{Order-law}
 use Rattle.laws.proofs.Runs.{turn}
 use Rattle.laws.proofs.OrderCount.{reached-turned}
-use Rattle.laws.proofs.OrderWords.{table-sizes, read-back}
+use Rattle.laws.proofs.OrderWords.{table-sizes, declared-read-back}
 use Rattle.laws.proofs.OrderTwins.{Twins, reordered-twins}
 use Rattle.laws.proofs.AlikeFilling.{Held-alike}
 use Rattle.laws.proofs.AlikeStates.{tree, Even, handed-even, cleared-even, Both, Ran, pass-even}
@@ -121,7 +121,7 @@ module _ (k : Config) (lawful : Lawful (k .acts)) where
 
 -- a table begun holds no declared name
 begun-holds : (words : List ℕ) → read-declared (zeroed declared-width words) ≡ []
-begun-holds words = read-back [] words tt
+begun-holds words = declared-read-back [] words tt
 
 start-even : (words others : Handed) (c d : Chain) → Begun-alike words others → Reordered (words .tree) (others .tree) c d → Even (begun-on words) (begun-on others)
 start-even words others c d b r =

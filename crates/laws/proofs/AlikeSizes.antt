@@ -25,9 +25,11 @@ name-key r = r .name
 abbrev Ends : Type 0
 Ends = Name × Name
 
+-- the two names of a row of edges
 abbrev edge-key : EdgeRow → Ends
 edge-key r = (r .from, r .to)
 
+-- two such keys are one
 abbrev same-ends : Ends → Ends → Bool
 same-ends a b = same (a .0) (b .0) && same (a .1) (b .1)
 

@@ -14,23 +14,23 @@ use lib.Dec.{leb}
 use lib.ListN.{length}
 use Rattle.std.proofs.shelf.Tests.{true≢false, false≢true}
 use Rattle.rules.specs.Tree.{Chain, Name}
-use Rattle.rules.specs.Grammar.{root}
 use Rattle.rules.specs.Refusals.{Outcome}
 use Rattle.rules.specs.Refusals.Outcome.{fine, refused}
 use Rattle.rules.specs.Check.{tree-fits}
-use Rattle.rules.specs.Tables.{Room, room, names-width, edges-width, names-in-words, edges-in-words, read-declared}
+use Rattle.rules.specs.Tables.{names-width, edges-width, Room, room, names-in-words, edges-in-words, read-declared}
 use Rattle.rules.specs.Rings.{discount}
 use Rattle.rules.specs.Judges.{Lawful}
 use Rattle.rules.specs.Removal.{Config, By, at-root, treat}
-use Rattle.rules.specs.Calls.{State, Filled, Pass, After, most-table-words, handed-fit, zeroed, cleared, filled-up, fill-tables, pass-by, remove, passed, pass-filled, pass-checked, pass-once}
+use Rattle.rules.specs.Calls.{State, most-table-words, handed-fit, zeroed, cleared, filled-up, Filled, fill-tables, Pass, pass-by, remove, After, passed, pass-filled, pass-checked, pass-once}
 use Rattle.rules.specs.Law.{tree-of, Same-lost}
 use Rattle.laws.proofs.TablesRoom.{Bounded}
+use Rattle.laws.proofs.TablesPass.{declared-rows, tables-of, tables-fit, fill-tables-bounded}
 use Rattle.laws.proofs.UnnumberedRemoval.{blind}
 use Rattle.laws.proofs.OrderCount.{counts-turned}
 use Rattle.laws.proofs.OrderWords.{table-sizes, names-words-sizes, edges-words-sizes}
-use Rattle.laws.proofs.OrderTwins.{Twins, formed-named}
+use Rattle.laws.proofs.OrderTwins.{Twins}
 use Rattle.laws.proofs.AlikeRemoval.{Left-alike, removed-alike, by-alike}
-use Rattle.laws.proofs.AlikeFilling.{declared-rows, tables-of, tables-fit, fill-tables-bounded, Held-alike, rows-declared-alike, counts-sizes, fit-alike, read-after, read-full, after-sizes}
+use Rattle.laws.proofs.AlikeFilling.{Held-alike, rows-declared-alike, counts-sizes, fit-alike, read-after, read-full, after-sizes}
 
 -- a state's tree
 abbrev pub tree : State → Chain
@@ -40,6 +40,7 @@ tree s = tree-of (s .tree)
 abbrev pub held : State → List Name
 held s = read-declared (s .declared)
 
+-- states that tell the same: twins for trees, tables of one length, the same declared names
 pub record Even (s u : State) : Type 0 where
   pub found : s .tree ≡ fine (tree s)
   pub found-too : u .tree ≡ fine (tree u)
@@ -116,7 +117,7 @@ module _ (k : Config) (lawful : Lawful (k .acts)) where
       declared = after-sizes (held s) (held u) (declared-rows (tree s) (held s)) (declared-rows (tree u) (held u)) (s .declared) (u .declared) (e .holds .sizes) (rows .sizes) (e .declared);
       names = table-sizes names-width (names-in-words (discount c)) (names-in-words (discount d)) (s .names) (u .names) (names-words-sizes c d (sizes .0)) (e .names);
       edges = table-sizes edges-width (edges-in-words (discount c) (c .edges)) (edges-in-words (discount d) (d .edges)) (s .edges) (u .edges) (edges-words-sizes (discount c) (discount d) (c .edges) (d .edges) (sizes .1)) (e .edges);
-      holds = subst₂ Held-alike (sym (read-after (tree s) (formed-named root (tree s) (t .formed)) (s .declared) (held s) refl)) (sym (read-after (tree u) (formed-named root (tree u) (t .formed-too)) (u .declared) (held u) refl)) rows;
+      holds = subst₂ Held-alike (sym (read-after (tree s) (t .one .formed) (s .declared) (held s) refl)) (sym (read-after (tree u) (t .other .formed) (u .declared) (held u) refl)) rows;
       changed = ap₂ _||_ (e .changed) (l .changed) }
 
   -- tables that are filled, or full

@@ -14,6 +14,7 @@ use Rattle.laws.proofs.Basics.{fold, Commutes}
 use Rattle.laws.proofs.TablesFilled.{entered, filled, seen, look-entered, seen-commutes, some-name, named, some-name-entered, named-commutes, some-entry, entries, some-entry-entered, entries-commute}
 use Rattle.laws.proofs.TablesEdges.{some-edge, edged, some-edge-entered, edged-commutes, weights, weighed, weights-entered, weighed-commutes}
 
+-- tables that tell the same: each name's row, which names, entries and edges there are, and the edges' weights
 pub record Alike (c d : Counts) : Type 0 where
   pub looks : (n : Name) → look n (c .names) ≡ look n (d .names)
   pub names : (p : Name → Bool) → some-name p (c .names) ≡ some-name p (d .names)
@@ -21,6 +22,7 @@ pub record Alike (c d : Counts) : Type 0 where
   pub edges : (p : Name → Name → Bool) → some-edge p (c .edges) ≡ some-edge p (d .edges)
   pub weights : (a : Bool) (p : Name → Name → Bool) → weights a p (c .edges) ≡ weights a p (d .edges)
 
+-- the same events in whatever order: no fold whose steps commute tells them apart
 abbrev pub Exchanged : List Event → List Event → Type 1
 Exchanged xs ys = (R : Type 0) (f : Event → R → R) → Commutes f → (r : R) → fold f xs r ≡ fold f ys r
 

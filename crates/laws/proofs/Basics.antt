@@ -1,12 +1,12 @@
 -- Tests, choices, lists, folds and outcomes as several pages need them, and a case split on whether two names are one.
 --
---   bool-eq, or-swap, or-twice, or-turn             tests
+--   bool-eq, or-swap, or-turn                       tests
 --   cond-ap, if-both, cond-nest, cond-commutes, elim-both      choices
 --   by-equal, by-same                               at one key or name, or at two that differ
 --   in-append, in-left, in-right, in-if, if-in      members of one list after another, and of a list under a test
 --   Each, each-member                               a fact on each kind of a list
 --   fold, Commutes, fold-++, fold-swap              folds; with steps that commute, whichever of two parts comes first
---   fine-eq, refused-fine                           outcomes
+--   refused-fine                                    a refusal is no result
 use Prim.Native.Nat.{ℕ}
 use native.Mathlib.Omega.{arith}
 use mathlib.Core.Path.{_≡_, refl, sym, ap, ap₂, _∙_, subst}
@@ -36,10 +36,6 @@ or-swap true true c = refl
 or-swap true false c = refl
 or-swap false true c = refl
 or-swap false false c = refl
-
-pub or-twice : (b : Bool) → b ≡ (b || b)
-or-twice true = refl
-or-twice false = refl
 
 pub or-turn : (a b c d : Bool) → (a || (b || (c || d))) ≡ (((b || c) || a) || d)
 or-turn true true c d = refl
@@ -115,10 +111,12 @@ each-member P k (m ∷ ks) all g = ⊎-elim (λ e. subst P (sym (eqb-true k m e)
 
 -- FOLDS
 
+-- each element of a list in turn
 abbrev pub fold : {E R : Type 0} → (E → R → R) → List E → R → R
 fold f [] r = r
 fold f (x ∷ xs) r = fold f xs (f x r)
 
+-- two steps may be exchanged
 abbrev pub Commutes : {E R : Type 0} → (E → R → R) → Type 0
 Commutes {E} {R} f = (x y : E) (r : R) → f x (f y r) ≡ f y (f x r)
 
@@ -135,9 +133,6 @@ fold-swap f c [] ys r = refl
 fold-swap f c (x ∷ xs) ys r = ap (fold f xs) (sym (fold-past f c x ys r)) ∙ fold-swap f c xs ys (f x r)
 
 -- OUTCOMES
-
-pub fine-eq : {A : Type 0} (a b : A) → _≡_ {A = Outcome A} (fine a) (fine b) → a ≡ b
-fine-eq a b e = cc
 
 pub refused-fine : {A : Type 0} (number at : ℕ) (a : A) → _≡_ {A = Outcome A} (refused number at) (fine a) → ⊥
 refused-fine number at a e = let z : _≡_ {A = ℕ} 0 1 = cc in omega arith

@@ -15,8 +15,8 @@ use mathlib.Core.Logic.{_⊎_, inl, inr, ⊎-elim}
 use Rattle.std.proofs.shelf.Tests.{both-ways, cases-bool, eqb-true, eqb-false}
 use Rattle.rules.specs.Tree.{Head, Chain, isEnd, below, after}
 use Rattle.rules.specs.Tree.Chain.{end, link}
-use Rattle.rules.specs.Kinds.{only, pattern, expression, declarator, function, function-expression}
-use Rattle.rules.specs.Grammar.{Way, words-fit, children-of, step, misplaced}
+use Rattle.rules.specs.Kinds.{declarator, function, function-expression, expression, pattern, only}
+use Rattle.rules.specs.Grammar.{words-fit, Way, children-of, step, misplaced}
 use Rattle.rules.specs.Grammar.Part.{one, maybe, many}
 use Rattle.rules.specs.Held.{Formed}
 

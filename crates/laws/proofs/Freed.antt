@@ -19,11 +19,11 @@ use Rattle.rules.specs.Names.{among}
 use Rattle.rules.specs.Counting.{Event, unheld}
 use Rattle.rules.specs.Tables.{NameRow, Counts, no-rows, look, writes}
 use Rattle.rules.specs.Rings.{component, closed, discount}
-use Rattle.rules.specs.Removal.{Config, By, Place, Verdict, unused, never-read, can-drop-binding, name-goes, all-go, place-inside, entered, verdict, treat, declarator-names, takes, gives, taken, gave}
+use Rattle.rules.specs.Removal.{Config, By, Place, place-inside, unused, never-read, can-drop-binding, entered, name-goes, all-go, Verdict, verdict, treat, declarator-names, takes, gives, taken, gave}
 use Rattle.rules.specs.Removal.Verdict.{stays, sweeps, empties, unlinks, restates, yields, unwraps}
 use Rattle.rules.specs.Law.{In, Reference}
 use Rattle.laws.proofs.Basics.{in-append, in-if}
-use Rattle.laws.proofs.Verdicts.{Unused, Means, means, can-unused}
+use Rattle.laws.proofs.Verdicts.{Unused, Means, can-unused, means}
 use Rattle.laws.proofs.TablesFilled.{filled}
 use Rattle.laws.proofs.TablesTold.{event-row, event-edge}
 use Rattle.laws.proofs.RingsDiscount.{open-row}

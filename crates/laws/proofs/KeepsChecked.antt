@@ -14,13 +14,13 @@ use Rattle.rules.specs.Tree.Chain.{end, link}
 use Rattle.rules.specs.Kinds.{module-root, script-root}
 use Rattle.rules.specs.Words.{next, Holds}
 use Rattle.rules.specs.Check.{tree-fits}
-use Rattle.rules.specs.Removal.{By, Place, Left, Verdict, at-root, place-inside, entered, verdict, done, treated, treat}
+use Rattle.rules.specs.Removal.{By, Place, at-root, place-inside, entered, Verdict, verdict, Left, done, treated, treat}
 use Rattle.rules.specs.Removal.Verdict.{stays, sweeps, empties, unlinks, restates, yields, unwraps}
 use Rattle.rules.proofs.Sounds.{check-sound, check-complete}
 use Rattle.laws.specs.KeepsTree.{Keeps-root, Checked-again}
 use Rattle.laws.proofs.Basics.{each-member}
 use Rattle.laws.proofs.Formed.{formed-one}
-use Rattle.laws.proofs.Verdicts.{Means, means, Emptying, emptying-kinds, emptying-kind, Unlinking}
+use Rattle.laws.proofs.Verdicts.{Emptying, Unlinking, Means, means, emptying-kinds, emptying-kind}
 use Rattle.laws.proofs.Verdicts.Unlinking.{declares, specifies}
 use Rattle.laws.proofs.KeepsApart.{keeps-apart}
 use Rattle.laws.proofs.KeepsLevel.{keeps-level}

@@ -9,36 +9,28 @@
 --   kept-valued, restated-formed   one that stays although its name can go has a value; what a Var becomes has its child
 use native.Mathlib.Omega.{arith}
 use mathlib.Core.Path.{_≡_, refl, sym, subst, _∙_}
-use mathlib.Core.Bool.{Bool, true, false, not, _&&_, _||_}
+use mathlib.Core.Bool.{Bool, true, false, not, and-false, or-false}
 use mathlib.Core.List.{List, [], _∷_}
 use mathlib.Core.Logic.{⊎-elim}
 use lib.Dec.{eqb}
 use Rattle.std.proofs.shelf.Tests.{cond-both, both-ways, cases-bool, and-parts, and-from, eq-eqb, eqb-true, not-from-false}
 use Rattle.rules.specs.Tree.{Head, Chain, _is_, flagged, isEnd, after, alone, append}
 use Rattle.rules.specs.Tree.Chain.{end, link}
-use Rattle.rules.specs.Kinds.{expression, pattern, plain-expression, var-declaration, for-statement, with-statement, declarator, only}
+use Rattle.rules.specs.Kinds.{var-declaration, for-statement, with-statement, declarator, plain-expression, expression, pattern, only}
 use Rattle.rules.specs.Grammar.{Way}
 use Rattle.rules.specs.Grammar.Part.{one, maybe}
 use Rattle.rules.specs.Held.{Formed}
-use Rattle.rules.specs.Removal.{By, Place, Left, Verdict, place-inside, entered, has-list, first-acts, name-goes, all-go, declarator-goes, become, values, joined, verdict, done, treated, treat}
+use Rattle.rules.specs.Removal.{By, Place, place-inside, first-acts, has-list, entered, name-goes, all-go, declarator-goes, Verdict, verdict, become, values, joined, Left, done, treated, treat}
 use Rattle.rules.specs.Removal.Verdict.{stays, sweeps, empties, unlinks, restates, yields, unwraps}
 use Rattle.laws.proofs.Formed.{list-of, listed, list-link, formed-one, one-link, maybe-taken, binding-ways, declarator-children}
-use Rattle.laws.proofs.Verdicts.{Means, means, Emptying, emptying-kind, Unlinking, Restated}
+use Rattle.laws.proofs.Verdicts.{Emptying, Unlinking, Restated, Means, means, emptying-kind}
 use Rattle.laws.proofs.Verdicts.Unlinking.{declares, specifies}
 use Rattle.laws.proofs.KeepsTable.{declarators}
-
-and-none : (b : Bool) → (b && false) ≡ false
-and-none true = refl
-and-none false = refl
-
-or-none : (b : Bool) → (b || false) ≡ b
-or-none true = refl
-or-none false = refl
 
 -- the rules enter every Declarator
 declarator-entered : (p : Place) (h : Head) (children : Chain) (last : Bool) → h .kind ≡ declarator → entered p h children last ≡ true
 declarator-entered p h children last k =
-  rw (k, and-none (eqb (p .parent) with-statement), and-none (eqb (p .parent) for-statement), and-none (p .in-export))
+  rw (k, and-false (eqb (p .parent) with-statement), and-false (eqb (p .parent) for-statement), and-false (p .in-export))
 
 -- what is left of a Declarator: itself, and then it was not to go; or nothing, and then it is not exported
 pub data Declarator-left (by : By) (p : Place) (h : Head) (children left : Chain) : Type 0 where
@@ -139,7 +131,7 @@ acts-filled by (link h children rest) e = refl
 -- in a Var that is not exported, a Declarator's name can go by its own place as by the Var's
 name-inside : (by : By) (p : Place) (h : Head) (parts : Chain) → h .kind ≡ var-declaration →
   name-goes by (place-inside p h) (place-inside p h .in-var) parts ≡ name-goes by p (flagged h) parts
-name-inside by p h parts k = rw (k, or-none (p .in-fn), or-none (p .in-block-stmt))
+name-inside by p h parts k = rw (k, or-false (p .in-fn), or-false (p .in-block-stmt))
 
 inward-inside : (p : Place) (h : Head) → h .kind ≡ var-declaration → p .in-export ≡ false → place-inside p h .in-export ≡ false
 inward-inside p h k x = rw (k, x)

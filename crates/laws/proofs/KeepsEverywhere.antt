@@ -11,7 +11,7 @@ use Rattle.std.proofs.shelf.Tests.{cond-both}
 use Rattle.rules.specs.Tree.{Head, Chain, _is_, isEnd, below, after, alone, append}
 use Rattle.rules.specs.Tree.Chain.{end, link}
 use Rattle.rules.specs.Kinds.{empty-statement, block, expression-statement, plain-expression}
-use Rattle.rules.specs.Removal.{By, Place, Left, Verdict, place-inside, entered, swept, wrapped-object, become, values, joined, done, verdict, treated, treat}
+use Rattle.rules.specs.Removal.{By, Place, place-inside, entered, swept, wrapped-object, Verdict, verdict, become, values, joined, Left, done, treated, treat}
 use Rattle.rules.specs.Removal.Verdict.{stays, sweeps, empties, unlinks, restates, yields, unwraps}
 
 -- `all n c`: each record of the chain c, which is nested n deep, has the fact

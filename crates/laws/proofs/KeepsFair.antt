@@ -12,11 +12,12 @@ use mathlib.Core.Bool.{Bool, true, false, cond, not, _&&_, _||_}
 use mathlib.Core.List.{List, [], _∷_, _++_}
 use mathlib.Core.Logic.{⊎-elim}
 use lib.Dec.{eqb}
-use Rattle.std.proofs.shelf.Tests.{cond-both, and-parts, and-from, both-ways, or-cases, or-left, not-true, eqb-true}
+use Rattle.std.proofs.shelf.Tests.{cond-both, and-parts, and-from, both-ways, or-cases, or-left, not-true}
 use Rattle.rules.specs.Tree.{if_then_else_}
-use Rattle.rules.specs.Kinds.{member, specifier, empty-statement, expression-statement, var-declaration, declarator, identifier, literal, function-expression, class-expression, arrow, plain-expression, object, call-expression, delete-expression, assignment}
+use Rattle.rules.specs.Kinds.{specifier, empty-statement, expression-statement, var-declaration, declarator, identifier, literal, function-expression, class-expression, arrow, plain-expression, object, call-expression, delete-expression, assignment, member}
 use Rattle.rules.specs.Grammar.{Part, Way, go-on, step}
 use Rattle.rules.specs.Grammar.Part.{one, maybe, many}
+use Rattle.laws.proofs.Basics.{Each, each-member}
 use Rattle.laws.proofs.KeepsWays.{Within, within-none, within-append}
 use Rattle.laws.proofs.KeepsWays.Within.{none, both, more}
 
@@ -79,11 +80,12 @@ abbrev pub fair : List ℕ → List Way → Bool
 fair ks [] = true
 fair ks (way ∷ ways) = fair-way ks way && fair ks ways
 
+all-each : (test : ℕ → Bool) (ks : List ℕ) → all-of test ks ≡ true → Each (λ (k : ℕ). test k ≡ true) ks
+all-each test [] a = tt
+all-each test (k ∷ ks) a = let p = and-parts (test k) (all-of test ks) a in (p .0, all-each test ks (p .1))
+
 all-member : (test : ℕ → Bool) (ks : List ℕ) (k : ℕ) → all-of test ks ≡ true → member k ks ≡ true → test k ≡ true
-all-member test [] k a m = absurd (both-ways false refl m)
-all-member test (j ∷ ks) k a m =
-  let p = and-parts (test j) (all-of test ks) a in
-  ⊎-elim (λ x. subst (λ (i : ℕ). test i ≡ true) (sym (eqb-true k j x)) (p .0)) (λ x. all-member test ks k (p .1) x) (or-cases (eqb k j) (member k ks) m)
+all-member test ks k a m = each-member (λ (j : ℕ). test j ≡ true) k ks (all-each test ks a) m
 
 -- a list of one sort has no part after it
 list-last : (part : Part) (way : Way) → a-list (part ∷ way) ≡ true → way ≡ []

@@ -18,20 +18,20 @@ use Rattle.std.proofs.shelf.Tests.{both-ways, cases-bool, or-parts, not-true, n
 use Rattle.std.proofs.shelf.Ways.{tells}
 use Rattle.rules.specs.Tree.{Head, Chain, _is_, isEnd, below, after, alone, append}
 use Rattle.rules.specs.Tree.Chain.{end, link}
-use Rattle.rules.specs.Kinds.{member, import-item, empty-statement, expression-statement, fn-declaration, class-declaration, var-declaration, for-statement, with-statement, export-default, delete-expression, declarator, specifier, object, call-expression, assignment, expression, statement, item}
-use Rattle.rules.specs.Grammar.{Way, words-fit, assigned, children-of, step, root}
+use Rattle.rules.specs.Kinds.{import-item, specifier, export-default, empty-statement, expression-statement, fn-declaration, class-declaration, var-declaration, for-statement, with-statement, declarator, object, call-expression, delete-expression, assignment, member, expression, statement, item}
+use Rattle.rules.specs.Grammar.{words-fit, Way, assigned, children-of, step, root}
 use Rattle.rules.specs.Grammar.Part.{one}
 use Rattle.rules.specs.Held.{Formed}
-use Rattle.rules.specs.Removal.{By, Place, Left, Verdict, at-root, place-inside, entered, has-list, wrapped-object, swept, verdict, done, treated, treat}
+use Rattle.rules.specs.Removal.{By, Place, at-root, place-inside, has-list, entered, swept, wrapped-object, Verdict, verdict, Left, done, treated, treat}
 use Rattle.rules.specs.Removal.Verdict.{stays, sweeps, empties, unlinks, restates, yields, unwraps}
 use Rattle.laws.specs.KeepsTree.{Keeps-formed}
 use Rattle.laws.proofs.Formed.{first-kind, formed-one, Record-formed, First-formed, first-formed, below-formed}
-use Rattle.laws.proofs.Verdicts.{Means, means, Emptying, Unlinking, by-list, wraps}
+use Rattle.laws.proofs.Verdicts.{Emptying, Unlinking, wraps, Means, means, by-list}
 use Rattle.laws.proofs.Verdicts.Emptying.{fn, class, imports, var}
 use Rattle.laws.proofs.Verdicts.Unlinking.{declares, specifies}
 use Rattle.laws.proofs.KeepsWays.{formed-filled}
 use Rattle.laws.proofs.KeepsFair.{stand-ins}
-use Rattle.laws.proofs.KeepsTable.{Bears, Stands, declarators, inner-ways, bears-fair, bears-inside, swap-moving, swap-declaring, swap-var, drop-formed}
+use Rattle.laws.proofs.KeepsTable.{declarators, Bears, bears-fair, inner-ways, bears-inside, Stands, swap-moving, swap-declaring, drop-formed, swap-var}
 use Rattle.laws.proofs.KeepsTable.Bears.{anywhere}
 use Rattle.laws.proofs.KeepsLists.{swept-formed, inner-formed, children-formed}
 use Rattle.laws.proofs.KeepsDeclarators.{exported-filled, First-kept, first-kept, restated-formed}

@@ -16,10 +16,10 @@ use Rattle.rules.specs.Tree.Chain.{end, link}
 use Rattle.rules.specs.Kinds.{plain-expression, name-pattern}
 use Rattle.rules.specs.Grammar.{children-of, step, may-end}
 use Rattle.rules.specs.Held.{Formed}
-use Rattle.rules.specs.Removal.{By, Place, Left, Verdict, place-inside, entered, wrapped-object, become, values, joined, done, verdict, treated, treat, all-go, name-goes}
+use Rattle.rules.specs.Removal.{By, Place, place-inside, entered, name-goes, all-go, wrapped-object, Verdict, verdict, become, values, joined, Left, done, treated, treat}
 use Rattle.rules.specs.Removal.Verdict.{stays, sweeps, empties, unlinks, restates, yields, unwraps}
 use Rattle.laws.specs.KeepsTree.{Fewer-reached, Lost-reached}
-use Rattle.laws.proofs.Verdicts.{Means, means, Emptying}
+use Rattle.laws.proofs.Verdicts.{Emptying, Means, means}
 use Rattle.laws.proofs.Verdicts.Emptying.{fn, class, imports, var}
 use Rattle.laws.proofs.KeepsMeasure.{Measure, sum-append, sum-alone, sum-after, sum-swept, sum-values, sum-wrapped, treated-sum, treat-sum}
 use Rattle.laws.proofs.KeepsWays.{formed-filled}

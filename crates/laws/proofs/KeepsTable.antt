@@ -16,7 +16,7 @@ use lib.Dec.{eqb}
 use Rattle.std.proofs.shelf.Tests.{cond-both, both-ways, or-left, or-right, eqb-true}
 use Rattle.rules.specs.Tree.{Head, Chain, if_then_else_, _is_, flagged}
 use Rattle.rules.specs.Tree.Chain.{end}
-use Rattle.rules.specs.Kinds.{member, within, module-root, script-root, import-item, export-declaration, export-list, export-default, block, expression-statement, plain-statement, try-statement, fn-declaration, class-declaration, var-declaration, for-statement, with-statement, catch-part, declarator, function, class-body, method, property, static-block, constructor, function-expression, class-expression, arrow, plain-expression, object, call-expression, delete-expression, assignment, name-pattern, compound-pattern, default-pattern, property-name, expression-pattern, expression, statement, declaration, for-head, only}
+use Rattle.rules.specs.Kinds.{module-root, script-root, import-item, export-declaration, export-list, export-default, block, expression-statement, plain-statement, try-statement, fn-declaration, class-declaration, var-declaration, for-statement, with-statement, catch-part, declarator, function, class-body, method, property, static-block, constructor, function-expression, class-expression, arrow, plain-expression, object, call-expression, delete-expression, assignment, name-pattern, compound-pattern, default-pattern, property-name, expression-pattern, member, within, expression, statement, declaration, for-head, only}
 use Rattle.rules.specs.Grammar.{Way, item-children, statement-children, part-children, expression-children, pattern-children, try-children, children-of, go-on, step, misplaced}
 use Rattle.rules.specs.Grammar.Part.{one, maybe, many}
 use Rattle.rules.specs.Held.{Formed}

@@ -22,6 +22,7 @@ pub mod TablesEdges
 pub mod TablesTold
 pub mod TablesSizes
 pub mod TablesRoom
+pub mod TablesPass
 pub mod RingsDiscount
 pub mod RingsClosed
 -- lists of calls
@@ -35,7 +36,7 @@ pub mod UnnumberedCount
 pub mod UnnumberedRemoval
 pub mod OrderCount
 pub mod OrderRemoval
-pub mod OrderNowhere
+pub mod OrderAsm
 pub mod OrderItems
 pub mod OrderDeclared
 pub mod OrderWords

@@ -2,7 +2,7 @@
 -- surroundings, so their events are exchanged, the same names are declared, and equally many records are reached.
 --
 --   root-of, Turned                            roots over the same items in another order
---   counts, counts-turned                      the tables without bound
+--   counts-turned                              the tables without bound
 --   names-declared, names-turned               the names declared
 --   reached-turned                             the records reached
 use Prim.Native.Nat.{ℕ, _+_}
@@ -13,13 +13,14 @@ use mathlib.Core.List.{List, [], _∷_, _++_, append-nil, append-assoc}
 use Rattle.rules.specs.Tree.{Head, Chain, Name, if_then_else_, reached, unnumbered}
 use Rattle.rules.specs.Tree.Chain.{end, link}
 use Rattle.rules.specs.Kinds.{module-root, script-root}
-use Rattle.rules.specs.Names.{same, among, namesOf, keep, under-nothing, declares, under, declaring, declared}
+use Rattle.rules.specs.Names.{same, among, namesOf, keep, under-nothing, under, declares, declaring, declared}
 use Rattle.rules.specs.Counting.{Event, Found, outermost, events-of}
-use Rattle.rules.specs.Tables.{Counts, no-rows}
+use Rattle.rules.specs.Tables.{no-rows}
 use Rattle.rules.specs.Law.{Shuffled}
 use Rattle.rules.specs.Law.Shuffled.{none, past, swap, again}
 use Rattle.laws.proofs.Basics.{or-swap, fold, fold-++, fold-swap}
 use Rattle.laws.proofs.TablesFilled.{filled}
+use Rattle.laws.proofs.TablesPass.{counts}
 use Rattle.laws.proofs.AlikeTables.{Alike, Exchanged, alike}
 use Rattle.laws.proofs.UnnumberedCount.{filled-unnumbered, names-unnumbered, declaring-unnumbered, count-unnumbered}
 
@@ -53,10 +54,6 @@ exchanged (again s t) R f k r = exchanged s R f k r ∙ exchanged t R f k r
 root-events : (m : Bool) (h : Head) (cs : Chain) → events-of (link (root-of m h) cs end) ≡ events-of cs ++ []
 root-events true h cs = refl
 root-events false h cs = refl
-
--- the tables that a tree's count fills
-abbrev pub counts : Chain → Counts
-counts c = filled (events-of c) no-rows
 
 counts-root : (m : Bool) (h : Head) (cs : Chain) → counts (link (root-of m h) cs end) ≡ counts (unnumbered cs)
 counts-root m h cs =

@@ -3,8 +3,8 @@
 --
 --   declared-names, declared-sizes         rows from the same names
 --   Symbols, symbols-declared              rows whose first word is not 0
---   unnamed                                a record of a named kind without a symbol
---   symbols-of-tree                        the rows of a tree without such a record
+--   has-symbol                             a record of a named kind has a symbol
+--   symbols-of-tree                        the rows of a tree formed by the table of kinds
 use Prim.Native.Nat.{ℕ}
 use mathlib.Core.Path.{_≡_, refl, sym, ap, _∙_, subst}
 use mathlib.Core.Bool.{Bool, true, false, _&&_, _||_, not, or-assoc}
@@ -12,19 +12,19 @@ use mathlib.Core.List.{List, [], _∷_, _++_}
 use mathlib.Core.Logic.{inl, inr}
 use lib.Dec.{eqb}
 use lib.ListN.{length}
-use Rattle.std.proofs.shelf.Tests.{true≢false, cases-bool, or-cases, and-parts, not-true, eqb-true}
+use Rattle.std.proofs.shelf.Tests.{or-cases, and-parts, not-true, eqb-true}
 use Rattle.rules.specs.Tree.{Head, Chain, Name, if_then_else_, _is_, nameOf}
 use Rattle.rules.specs.Tree.Chain.{end, link}
-use Rattle.rules.specs.Kinds.{member, definition-expression, specifier, fn-declaration, class-declaration, name-pattern, property-name}
-use Rattle.rules.specs.Grammar.{named}
-use Rattle.rules.specs.Names.{same, among, namesOf, binds, keep, Under, under, under-nothing, declares, declaring, declared}
+use Rattle.rules.specs.Kinds.{specifier, fn-declaration, class-declaration, name-pattern, property-name, member, known, definition-expression}
+use Rattle.rules.specs.Grammar.{named, name-fits, flags-fit, words-fit, Way, children-of, step, root}
+use Rattle.rules.specs.Held.{Formed}
+use Rattle.rules.specs.Names.{same, among, namesOf, binds, keep, Under, under-nothing, under, declares, declaring, declared}
 use Rattle.rules.specs.Tables.{some-row}
 use Rattle.rules.proofs.SameNames.{same-eq, same-refl}
 use Rattle.laws.proofs.Basics.{or-swap, each-member}
 use Rattle.laws.proofs.TablesRows.{with-row, some-with-row}
 use Rattle.laws.proofs.TablesSizes.{Single, single-with-row, equal-sizes}
 use Rattle.laws.proofs.TablesRoom.{all-declared}
-use Rattle.laws.proofs.OrderNowhere.{Nowhere}
 
 -- THE SAME NAMES
 
@@ -71,12 +71,11 @@ symbols-declared : (hs : List Head) (rows : List Name) → Symbols (namesOf hs) 
 symbols-declared [] rows p q = q
 symbols-declared (h ∷ hs) rows p q = symbols-declared hs (with-row (same (nameOf h)) (nameOf h) rows) (p .1) (symbols-with (nameOf h) (same (nameOf h)) rows (p .0) q)
 
--- a record of a named kind without a symbol
-abbrev pub unnamed : Head → Bool
-unnamed h = named (h .kind) && eqb (h .symbol) 0
-
-has-symbol : (h : Head) → unnamed h ≡ false → named (h .kind) ≡ true → eqb (h .symbol) 0 ≡ false
-has-symbol h p q = elim (cases-bool (eqb (h .symbol) 0)) [ inl e ↦ absurd (true≢false (sym (rw (q, e)) ∙ p)) | inr e ↦ e ]
+-- a record of a named kind has a symbol
+has-symbol : (h : Head) → words-fit h ≡ true → named (h .kind) ≡ true → eqb (h .symbol) 0 ≡ false
+has-symbol h w q =
+  let fits = and-parts (known (h .kind) && flags-fit h) (name-fits h) w .1 in
+  not-true (eqb (h .symbol) 0) (rw q at fits)
 
 declarations-named : (k : ℕ) → member k (specifier ∷ fn-declaration ∷ class-declaration ∷ []) ≡ true → named k ≡ true
 declarations-named k = each-member (λ (j : ℕ). named j ≡ true) k (specifier ∷ fn-declaration ∷ class-declaration ∷ []) (refl, (refl, (refl, tt)))
@@ -86,7 +85,7 @@ binders-named h e = elim (or-cases (h is name-pattern) (h is property-name) e) [
     inl q ↦ rw (eqb-true (h .kind) name-pattern q)
   | inr q ↦ rw (eqb-true (h .kind) property-name q) ]
 
-declares-symbol : (u : Under) (h : Head) → unnamed h ≡ false → declares u h ≡ true → eqb (h .symbol) 0 ≡ false
+declares-symbol : (u : Under) (h : Head) → words-fit h ≡ true → declares u h ≡ true → eqb (h .symbol) 0 ≡ false
 declares-symbol u h p e = elim (or-cases (member (h .kind) (specifier ∷ fn-declaration ∷ class-declaration ∷ []) || (u .binding && binds h)) (u .default && definition-expression (h .kind) && not (eqb (h .symbol) 0)) e) [
     inl q ↦ elim (or-cases (member (h .kind) (specifier ∷ fn-declaration ∷ class-declaration ∷ [])) (u .binding && binds h) q) [
       inl q ↦ has-symbol h p (declarations-named (h .kind) q)
@@ -101,11 +100,11 @@ symbols-keep : (b : Bool) (h : Head) (hs : List Head) → (b ≡ true → eqb (h
 symbols-keep true h hs p q = (p refl, q)
 symbols-keep false h hs p q = q
 
-symbols-declaring : (u : Under) (c : Chain) → Nowhere unnamed c → Symbols (namesOf (declaring u c))
-symbols-declaring u end p = tt
-symbols-declaring u (link h cs rest) p =
-  symbols-keep (declares u h) h (declaring (under u h) cs ++ declaring u rest) (declares-symbol u h (p .0))
-    (symbols-++ (declaring (under u h) cs) (declaring u rest) (symbols-declaring (under u h) cs (p .1)) (symbols-declaring u rest (p .2)))
+symbols-declaring : (u : Under) (ways : List Way) (c : Chain) → Formed ways c → Symbols (namesOf (declaring u c))
+symbols-declaring u ways end f = tt
+symbols-declaring u ways (link h cs rest) f =
+  symbols-keep (declares u h) h (declaring (under u h) cs ++ declaring u rest) (declares-symbol u h (f .0))
+    (symbols-++ (declaring (under u h) cs) (declaring u rest) (symbols-declaring (under u h) (children-of h) cs (f .2)) (symbols-declaring u (step (h .kind) ways) rest (f .3)))
 
-pub symbols-of-tree : (c : Chain) → Nowhere unnamed c → Symbols (all-declared (declared c) [])
-symbols-of-tree c p = symbols-declared (declared c) [] (symbols-declaring under-nothing c p) tt
+pub symbols-of-tree : (c : Chain) → Formed root c → Symbols (all-declared (declared c) [])
+symbols-of-tree c f = symbols-declared (declared c) [] (symbols-declaring under-nothing root c f) tt

@@ -11,8 +11,8 @@ use lib.Dec.{eqb}
 use Rattle.std.proofs.shelf.Tests.{eqb-true, eq-eqb, both-ways}
 use Rattle.rules.specs.Tree.{Head, Chain, if_then_else_, _is_, isEnd, append, unnumbered}
 use Rattle.rules.specs.Tree.Chain.{end, link}
-use Rattle.rules.specs.Kinds.{expression, empty-statement, block, for-statement, assignment, call-expression}
-use Rattle.rules.specs.Removal.{By, Place, Left, Verdict, place-inside, entered, swept, verdict, done, treated, treat}
+use Rattle.rules.specs.Kinds.{empty-statement, block, for-statement, call-expression, assignment, expression}
+use Rattle.rules.specs.Removal.{By, Place, place-inside, entered, swept, Verdict, verdict, Left, done, treated, treat}
 use Rattle.rules.specs.Removal.Verdict.{stays, sweeps, empties, unlinks, restates, yields, unwraps}
 use Rattle.rules.specs.Law.{item-at}
 use Rattle.laws.proofs.Verdicts.{Means, means}

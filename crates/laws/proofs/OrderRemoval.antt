@@ -13,10 +13,10 @@ use lib.Dec.{eqb}
 use Rattle.rules.specs.Tree.{Head, Chain, if_then_else_, _is_, isEnd, append, unnumbered}
 use Rattle.rules.specs.Tree.Chain.{end, link}
 use Rattle.rules.specs.Kinds.{module-root, script-root, empty-statement, block, for-statement}
-use Rattle.rules.specs.Removal.{By, Place, Left, at-root, place-inside, asm, entered, swept, unchanged, both, treated, treat}
+use Rattle.rules.specs.Removal.{By, Place, at-root, place-inside, asm, entered, swept, Left, unchanged, both, treated, treat}
 use Rattle.rules.specs.Law.{Shuffled}
 use Rattle.rules.specs.Law.Shuffled.{none, past, swap, again}
-use Rattle.laws.proofs.Basics.{cond-ap, or-swap}
+use Rattle.laws.proofs.Basics.{or-swap, cond-ap}
 use Rattle.laws.proofs.Verdicts.{entered-anywhere}
 use Rattle.laws.proofs.UnnumberedRemoval.{swept-unnumbered, treat-unnumbered}
 use Rattle.laws.proofs.OrderCount.{root-of}

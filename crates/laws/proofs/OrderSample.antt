@@ -2,9 +2,9 @@
 use Prim.Native.Nat.{ℕ}
 use mathlib.Core.Path.{refl}
 use mathlib.Core.List.{List, [], _∷_}
-use Rattle.rules.specs.Kinds.{script-root, fn-declaration, function, block, expression-statement, call-expression, identifier}
+use Rattle.rules.specs.Kinds.{script-root, block, expression-statement, fn-declaration, function, identifier, call-expression}
 use Rattle.rules.specs.Check.{check}
-use Rattle.rules.specs.Law.{Reordered, tree-of}
+use Rattle.rules.specs.Law.{tree-of, Reordered}
 use Rattle.rules.specs.Law.Shuffled.{swap}
 use Rattle.rules.specs.Scripts.{a, b, own, ring}
 

@@ -1,46 +1,57 @@
 -- Where a run begins: two trees that the check takes and that differ only in the order of items are twins, by what the check says of each.
 --
---   Twins                    trees as the runs keep them: roots over the same items in another order, formed by the table of kinds
+--   Orderly, orderly-treated a tree formed by the table of kinds, each record once, without 'use asm'; what is left of it is such
+--   Twins                    such trees, roots over the same items in another order
 --   rooted-as                a checked tree is one root, of its kind, over its items
 --   formed-items, root-items its items are no expressions, each with its own number
---   formed-named             a record of a named kind has a symbol
 --   reordered-twins          the two trees of the law
 use Prim.Native.Nat.{ℕ}
 use native.Mathlib.Omega.{arith}
 use mathlib.Core.Path.{_≡_, refl, sym, _∙_, subst, subst₂}
-use mathlib.Core.Bool.{Bool, true, false, _&&_}
+use mathlib.Core.Bool.{Bool, true, false, _||_}
 use mathlib.Core.List.{List, [], _∷_}
 use mathlib.Core.Logic.{inl, inr}
 use lib.Dec.{eqb, leb}
-use Rattle.std.proofs.shelf.Tests.{true≢false, false≢true, cases-bool, or-cases, and-parts, and-left, and-right, not-true, eqb-true, leb-true, lt-leb}
+use Rattle.std.proofs.shelf.Tests.{true≢false, false≢true, cases-bool, or-cases, and-parts, and-left, eqb-true, leb-true, lt-leb}
 use Rattle.rules.specs.Tree.{Head, Chain, if_then_else_, below, unnumbered}
 use Rattle.rules.specs.Tree.Chain.{end, link}
-use Rattle.rules.specs.Kinds.{member, known, module-root, script-root, import-item, export-declaration, export-list, export-default, expression, statement, item}
-use Rattle.rules.specs.Grammar.{Way, named, flags-fit, name-fits, words-fit, children-of, step, root}
+use Rattle.rules.specs.Kinds.{module-root, script-root, import-item, export-declaration, export-list, export-default, member, expression, statement, item}
+use Rattle.rules.specs.Grammar.{root}
 use Rattle.rules.specs.Grammar.Part.{one}
 use Rattle.rules.specs.Held.{Numbers, Apart, Formed}
-use Rattle.rules.specs.Law.{Shuffled, root-kind, item-at, Reordered}
+use Rattle.rules.specs.Removal.{By, at-root, treat}
+use Rattle.rules.specs.Law.{Shuffled, root-kind, Without-asm, Reordered, item-at}
 use Rattle.rules.proofs.Sounds.{check-sound}
 use Rattle.laws.proofs.Basics.{each-member}
-use Rattle.laws.proofs.Formed.{list-of, listed}
+use Rattle.laws.proofs.Formed.{list-of, listed, formed-one}
+use Rattle.laws.proofs.KeepsApart.{keeps-apart}
+use Rattle.laws.proofs.KeepsFormed.{keeps-formed}
 use Rattle.laws.proofs.OrderCount.{root-of, Turned}
 use Rattle.laws.proofs.OrderCount.Turned.{roots}
-use Rattle.laws.proofs.OrderNowhere.{Nowhere, asm-string, asm-nowhere}
+use Rattle.laws.proofs.OrderAsm.{without-treated}
 use Rattle.laws.proofs.OrderItems.{Items}
-use Rattle.laws.proofs.OrderDeclared.{unnamed}
 
--- roots over the same items in another order, formed by the table of kinds, each record once, without 'use asm'
+-- a tree formed by the table of kinds, each record once, without 'use asm'
+pub record Orderly (c : Chain) : Type 0 where
+  pub formed : Formed root c
+  pub apart : Apart c
+  pub without-asm : Without-asm c
+
+-- such trees, roots over the same items in another order
 pub record Twins (c d : Chain) : Type 0 where
   pub turned : Turned c d
-  pub formed : Formed root c
-  pub formed-too : Formed root d
-  pub apart : Apart c
-  pub apart-too : Apart d
-  pub without-asm : Nowhere asm-string c
-  pub without-asm-too : Nowhere asm-string d
+  pub one : Orderly c
+  pub other : Orderly d
+
+pub orderly-treated : (by : By) (c : Chain) → Orderly c → Orderly (treat by at-root c .chain)
+orderly-treated by c o = record {
+  formed = keeps-formed by c (o .formed);
+  apart = keeps-apart by at-root c (o .apart);
+  without-asm = without-treated by at-root c (o .without-asm) }
 
 -- THE ROOT
 
+-- the kind of a Module or Script
 abbrev kind-of : (module-tree : Bool) → ℕ
 kind-of m = if m then module-root else script-root
 
@@ -54,11 +65,9 @@ root-is m h q = λ i. record { number = h .number; kind = q i; flags = h .flags;
 
 which-root : (c : Chain) → Formed root c → (m : Bool) × (root-kind c ≡ kind-of m)
 which-root end f = absurd (false≢true f)
-which-root (link h cs rest) f = elim (cases-bool (eqb (h .kind) module-root)) [
+which-root (link h cs rest) f = elim (or-cases (eqb (h .kind) module-root) (eqb (h .kind) script-root) (formed-one (λ k. eqb k module-root || eqb k script-root) [] (link h cs rest) f .0)) [
     inl e ↦ (true, eqb-true (h .kind) module-root e)
-  | inr e ↦ elim (cases-bool (eqb (h .kind) script-root)) [
-      inl e′ ↦ (false, eqb-true (h .kind) script-root e′)
-    | inr e′ ↦ let q = f .1 in absurd (true≢false (rw (e, e′) at q)) ] ]
+  | inr e ↦ (false, eqb-true (h .kind) script-root e) ]
 
 -- a root's children, and that nothing follows it
 root-parts : (m : Bool) (h : Head) (cs rest : Chain) → Formed root (link (root-of m h) cs rest) → (rest ≡ end) × Formed (list-of (items-sort m)) cs
@@ -106,19 +115,6 @@ sort-plain : (m : Bool) (k : ℕ) → items-sort m k ≡ true → expression k �
 sort-plain true = item-plain
 sort-plain false = statement-plain
 
--- THE NAMES
-
-symbol-fits : (h : Head) → words-fit h ≡ true → unnamed h ≡ false
-symbol-fits h w =
-  let fits = and-parts (known (h .kind) && flags-fit h) (name-fits h) w .1 in
-  elim (cases-bool (named (h .kind))) [
-    inl e ↦ and-right (named (h .kind)) (eqb (h .symbol) 0) (not-true (eqb (h .symbol) 0) (rw e at fits))
-  | inr e ↦ and-left (named (h .kind)) (eqb (h .symbol) 0) e ]
-
-pub formed-named : (ways : List Way) (c : Chain) → Formed ways c → Nowhere unnamed c
-formed-named ways end f = tt
-formed-named ways (link h cs rest) f = (symbol-fits h (f .0), formed-named (children-of h) cs (f .2), formed-named (step (h .kind) ways) rest (f .3))
-
 -- THE TWO TREES
 
 -- the items of a root
@@ -135,9 +131,5 @@ reordered-twins words others c d r =
   record {
     turned = subst₂ Turned (sym (x .whole)) (sym (y .whole)) (roots (m .0) (x .head) (y .head)
       (subst₂ (λ (a b : Chain). Shuffled (unnumbered (below a)) (unnumbered (below b))) (x .whole) (y .whole) (r .items)));
-    formed = s .formed;
-    formed-too = t .formed;
-    apart = s .apart;
-    apart-too = t .apart;
-    without-asm = asm-nowhere c (r .without-asm);
-    without-asm-too = asm-nowhere d (r .without-asm-too) }
+    one = record { formed = s .formed; apart = s .apart; without-asm = r .without-asm };
+    other = record { formed = t .formed; apart = t .apart; without-asm = r .without-asm-too } }

@@ -3,7 +3,7 @@
 --
 --   table-sizes                                   tables of equally long rows, put into equally long words
 --   declared-words-sizes, names-words-sizes, edges-words-sizes      equally many rows have equally many words
---   read-back                                     the declared names are read back
+--   declared-read-back                                     the declared names are read back
 use Prim.Native.Nat.{ℕ, zero, suc, _+_, _-_, _*_, _/_, _≤_}
 use native.Mathlib.Omega.{arith}
 use mathlib.Core.Path.{_≡_, refl, sym, ap, ap₂, _∙_}
@@ -12,7 +12,7 @@ use lib.ListN.{length, drop, replicate}
 use Rattle.std.proofs.shelf.Lists.{length-append, length-drop, length-replicate}
 use Rattle.rules.specs.Tree.{Name}
 use Rattle.rules.specs.Tables.{NameRow, EdgeRow, Counts, declared-width, declared-in-words, names-in-words, edges-in-words, table, read-declared}
-use Rattle.rules.specs.Rings.{discount, discount-rows}
+use Rattle.rules.specs.Rings.{discount-rows, discount}
 use Rattle.laws.proofs.OrderDeclared.{Symbols}
 
 -- SIZES
@@ -75,8 +75,8 @@ read-rows : (ns : List Name) (words : List ℕ) → Symbols ns → read-declared
 read-rows [] words s q = q
 read-rows (n ∷ ns) words s q = rw (s .0) (ap (λ (ms : List Name). n ∷ ms) (read-rows ns words (s .1) q))
 
-pub read-back : (ns : List Name) (found : List ℕ) → Symbols ns → read-declared (table declared-width (declared-in-words ns) found) ≡ ns
-read-back ns found s =
+pub declared-read-back : (ns : List Name) (found : List ℕ) → Symbols ns → read-declared (table declared-width (declared-in-words ns) found) ≡ ns
+declared-read-back ns found s =
   let whole = length found / 2 * 2 in
   let rows = declared-in-words ns in
   ap read-declared (append-assoc rows (replicate (whole - length rows) 0) (drop whole found))

@@ -12,9 +12,9 @@ use mathlib.Core.Logic.{_⊎_, inl, inr, ⊎-elim}
 use Rattle.std.proofs.shelf.Tests.{cond-both, both-ways, eqb-true}
 use Rattle.rules.specs.Tree.{Head, Chain, _is_, isEnd, after, alone, append}
 use Rattle.rules.specs.Tree.Chain.{end, link}
-use Rattle.rules.specs.Kinds.{only, expression, export-declaration, var-declaration, declarator, plain-expression, name-pattern, compound-pattern, default-pattern}
+use Rattle.rules.specs.Kinds.{export-declaration, var-declaration, declarator, plain-expression, name-pattern, compound-pattern, default-pattern, expression, only}
 use Rattle.rules.specs.Held.{Formed}
-use Rattle.rules.specs.Counting.{Event, Around, Role, reading, own, inside}
+use Rattle.rules.specs.Counting.{Event, Role, Around, reading, own, inside}
 use Rattle.rules.specs.Counting.Role.{declared-here, written}
 use Rattle.rules.specs.Removal.{swept, become, values, joined}
 use Rattle.rules.specs.Law.{In}

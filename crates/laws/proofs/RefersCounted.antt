@@ -11,7 +11,7 @@ use Rattle.rules.specs.Tree.{Head, Chain, Name, if_then_else_, _is_}
 use Rattle.rules.specs.Tree.Chain.{end, link}
 use Rattle.rules.specs.Kinds.{export-declaration, export-name, function, identifier, call-expression, name-pattern, property-name}
 use Rattle.rules.specs.Names.{namesOf, distinct, bound, declared-below, exported}
-use Rattle.rules.specs.Counting.{Event, Found, Around, unheld, nothing, reading, writing, readings, marks, named-here, calls-eval, own, opens, leave, inside, count}
+use Rattle.rules.specs.Counting.{Event, unheld, Found, nothing, Around, reading, writing, readings, marks, named-here, calls-eval, own, opens, leave, inside, count}
 use Rattle.rules.specs.Law.{In, Reference}
 use Rattle.laws.proofs.Basics.{in-append, in-left, in-right}
 use Rattle.laws.proofs.RefersExported.{in-exported, exported-in}

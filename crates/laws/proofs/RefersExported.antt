@@ -12,16 +12,16 @@ use lib.Dec.{eqb}
 use Rattle.std.proofs.shelf.Tests.{cond-both, both-ways, eqb-true, cases-bool}
 use Rattle.rules.specs.Tree.{Head, Chain, if_then_else_, _is_, isEnd, after, alone, append}
 use Rattle.rules.specs.Tree.Chain.{end, link}
-use Rattle.rules.specs.Kinds.{expression, fn-declaration, class-declaration, var-declaration, declarator, name-pattern, compound-pattern, default-pattern, property-name}
+use Rattle.rules.specs.Kinds.{fn-declaration, class-declaration, var-declaration, declarator, name-pattern, compound-pattern, default-pattern, property-name, expression}
 use Rattle.rules.specs.Grammar.{Way, assigned, children-of, step}
 use Rattle.rules.specs.Held.{Formed}
 use Rattle.rules.specs.Names.{binds, nests, keep, exported}
-use Rattle.rules.specs.Removal.{By, Place, Left, Verdict, place-inside, entered, swept, wrapped-object, verdict, done, treated, treat}
+use Rattle.rules.specs.Removal.{By, Place, place-inside, entered, swept, wrapped-object, Verdict, verdict, Left, done, treated, treat}
 use Rattle.rules.specs.Removal.Verdict.{stays, sweeps, empties, unlinks, restates, yields, unwraps}
 use Rattle.rules.specs.Law.{In}
 use Rattle.laws.proofs.Basics.{in-append, in-left, in-right, in-if, if-in}
 use Rattle.laws.proofs.Formed.{first-kind, assigned-value}
-use Rattle.laws.proofs.Verdicts.{Means, means, treated-both, wraps}
+use Rattle.laws.proofs.Verdicts.{wraps, Means, means, treated-both}
 use Rattle.laws.proofs.KeepsTable.{inner-ways}
 use Rattle.laws.proofs.KeepsFormed.{inner-kept}
 

@@ -13,7 +13,7 @@ use Rattle.rules.specs.Tree.Chain.{end, link}
 use Rattle.rules.specs.Kinds.{export-name, fn-declaration, class-declaration, identifier, call-expression, name-pattern, property-name}
 use Rattle.rules.specs.Held.{Numbers}
 use Rattle.rules.specs.Names.{among}
-use Rattle.rules.specs.Counting.{Event, Found, Around, Role, refer, holders, put, nothing, reference, reading, writing, named-here, own, opens, inside, outermost, events-of}
+use Rattle.rules.specs.Counting.{Event, holders, refer, Found, nothing, Role, Around, outermost, put, reference, reading, writing, named-here, own, opens, inside, events-of}
 use Rattle.rules.specs.Counting.Role.{declared-here, written, read-and-written}
 use Rattle.rules.specs.Law.{In, Reference, Inside}
 use Rattle.laws.proofs.Basics.{in-append}

@@ -13,9 +13,9 @@ use Rattle.rules.specs.Kinds.{assignment}
 use Rattle.rules.specs.Grammar.{Way, assigned, children-of, step}
 use Rattle.rules.specs.Held.{Formed}
 use Rattle.rules.specs.Counting.{Event, Around, role-in, inside}
-use Rattle.rules.specs.Removal.{By, Place, Left, Verdict, place-inside, entered, swept, verdict, done, treated, treat}
+use Rattle.rules.specs.Removal.{By, Place, place-inside, entered, swept, Verdict, verdict, Left, done, treated, treat}
 use Rattle.rules.specs.Removal.Verdict.{stays, sweeps, empties, unlinks, restates, yields, unwraps}
-use Rattle.laws.proofs.Formed.{assigned-value, first-formed}
+use Rattle.laws.proofs.Formed.{first-formed, assigned-value}
 use Rattle.laws.proofs.Verdicts.{Means, means, treated-both}
 use Rattle.laws.proofs.KeepsTable.{inner-ways}
 use Rattle.laws.proofs.KeepsFormed.{inner-kept}

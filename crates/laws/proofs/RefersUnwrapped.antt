@@ -12,10 +12,10 @@ use lib.Dec.{eqb}
 use Rattle.std.proofs.shelf.Tests.{and-parts, both-ways, eqb-true}
 use Rattle.rules.specs.Tree.{Head, Chain, Name, if_then_else_, _is_, isEnd, below, alone}
 use Rattle.rules.specs.Tree.Chain.{end, link}
-use Rattle.rules.specs.Kinds.{export-declaration, fn-declaration, class-declaration, block, plain-statement, function, identifier, function-expression, object, call-expression}
+use Rattle.rules.specs.Kinds.{export-declaration, block, plain-statement, fn-declaration, class-declaration, function, identifier, function-expression, object, call-expression}
 use Rattle.rules.specs.Grammar.{Way, children-of, step}
 use Rattle.rules.specs.Held.{Formed}
-use Rattle.rules.specs.Counting.{Event, Around, holders, own, inside}
+use Rattle.rules.specs.Counting.{Event, holders, Around, own, inside}
 use Rattle.rules.specs.Removal.{only-identifiers, wrapped-object}
 use Rattle.rules.specs.Law.{In}
 use Rattle.laws.proofs.Formed.{first-kind, formed-none, First-formed, below-formed, callee-function}

@@ -19,7 +19,7 @@ use Rattle.rules.specs.Refusals.Outcome.{fine, refused}
 use Rattle.rules.specs.Held.{Formed}
 use Rattle.rules.specs.Counting.{events-of}
 use Rattle.rules.specs.Removal.{Config, at-root}
-use Rattle.rules.specs.Calls.{State, Pass, After, Call, Answer, cleared, pass-by, remove, passed, pass-once, passes-from, reached-by, repeat-ended, call-fitting, unfit-answer}
+use Rattle.rules.specs.Calls.{State, cleared, Pass, pass-by, remove, After, passed, pass-once, passes-from, reached-by, repeat-ended, Call, Answer, call-fitting, unfit-answer}
 use Rattle.rules.specs.Calls.Call.{pass, reset, repeat}
 use Rattle.rules.specs.Calls.Answer.{repeat-answer}
 use Rattle.rules.specs.Calls.Repeated.{repeated, stopped}
@@ -29,7 +29,7 @@ use Rattle.laws.specs.RepeatsLaw.{Bound-never-ends}
 use Rattle.laws.proofs.Basics.{refused-fine}
 use Rattle.laws.proofs.KeepsReached.{lost-reached}
 use Rattle.laws.proofs.RunsNumbered.{Numbered}
-use Rattle.laws.proofs.Runs.{Ready, begun-ready, Full, pass-result, result-ready, turn-cases, call-cases, called-one}
+use Rattle.laws.proofs.Runs.{Ready, begun-ready, Full, pass-result, turn-cases, call-cases, result-follows, called-one}
 use Rattle.laws.proofs.Runs.Result.{one-made}
 use Rattle.laws.proofs.RepeatsUsed.{pass-used}
 
@@ -79,7 +79,7 @@ from-run k zero s fresh r = record { numbered = λ l. absurd (omega (arith, l));
 from-run k (suc turns) s fresh r =
   turn-cases k s (λ (a : After (Outcome Bool)). Run k s (suc turns) a) (passes-from k turns)
     (λ number at l n e. record { numbered = λ _. n; bounded = λ b x. absurd (refused-fine number at b x); used = λ b x. absurd (refused-fine number at b x) })
-    (λ p e f c. turns-on k s fresh r p e f turns c (from-run k turns (cleared (passed k s p)) refl (result-ready k s r _ (one-made p e f))))
+    (λ p e f c. turns-on k s fresh r p e f turns c (from-run k turns (cleared (passed k s p)) refl (result-follows k s r _ (one-made p e f) .ready)))
     (λ p e f c. turns-end k s fresh r p e f turns c)
     (pass-once k s) (pass-result k s r)
 

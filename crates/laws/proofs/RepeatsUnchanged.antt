@@ -11,12 +11,12 @@ use mathlib.Core.Logic.{⊎-elim}
 use Rattle.std.proofs.shelf.Tests.{cond-both, and-parts, both-ways, or-cases, or-parts, or-left, or-right, eqb-true}
 use Rattle.rules.specs.Tree.{Head, Chain, if_then_else_, _is_, isEnd, append}
 use Rattle.rules.specs.Tree.Chain.{end, link}
-use Rattle.rules.specs.Kinds.{export-declaration, empty-statement, block, fn-declaration, class-declaration, var-declaration, declarator, function, identifier, export-name, arrow, call-expression, name-pattern, property-name}
+use Rattle.rules.specs.Kinds.{export-declaration, export-name, empty-statement, block, fn-declaration, class-declaration, var-declaration, declarator, function, identifier, arrow, call-expression, name-pattern, property-name}
 use Rattle.rules.specs.Grammar.{Way, children-of, step}
 use Rattle.rules.specs.Held.{Formed}
-use Rattle.rules.specs.Names.{Under, under, under-nothing, declares, declaring, declared-below, binds, nests, keep, bound, exported, namesOf, distinct}
-use Rattle.rules.specs.Counting.{Found, Around, nothing, _followed-by_, reading, writing, readings, marks, named-here, calls-eval, opens, inside, count}
-use Rattle.rules.specs.Removal.{By, Place, Left, Verdict, place-inside, entered, has-list, swept, verdict, done, treated, treat}
+use Rattle.rules.specs.Names.{namesOf, distinct, binds, nests, keep, bound, Under, under-nothing, under, declares, declaring, declared-below, exported}
+use Rattle.rules.specs.Counting.{Found, nothing, _followed-by_, Around, reading, writing, readings, marks, named-here, calls-eval, opens, inside, count}
+use Rattle.rules.specs.Removal.{By, Place, place-inside, has-list, entered, swept, Verdict, verdict, Left, done, treated, treat}
 use Rattle.rules.specs.Removal.Verdict.{stays, sweeps, empties, unlinks, restates, yields, unwraps}
 use Rattle.laws.proofs.Basics.{each-member}
 use Rattle.laws.proofs.Formed.{formed-none}

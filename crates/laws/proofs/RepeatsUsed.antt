@@ -17,11 +17,11 @@ use Rattle.rules.specs.Held.{Formed}
 use Rattle.rules.specs.Counting.{Found, outermost, events-of}
 use Rattle.rules.specs.Tables.{NameRow, Counts, look}
 use Rattle.rules.specs.Rings.{discount}
-use Rattle.rules.specs.Removal.{Config, By, Place, Left, Verdict, at-root, permitted, retained, unused, place-inside, entered, has-list, swept, fn-goes, verdict, done, treated, treat}
+use Rattle.rules.specs.Removal.{Config, By, Place, at-root, place-inside, permitted, retained, unused, has-list, entered, swept, fn-goes, Verdict, verdict, Left, done, treated, treat}
 use Rattle.rules.specs.Removal.Verdict.{stays, sweeps, empties, unlinks, restates, yields, unwraps}
 use Rattle.rules.specs.Calls.{Pass, pass-by, remove}
 use Rattle.rules.specs.Law.{removable, Removable, Counted}
-use Rattle.laws.proofs.Verdicts.{Means, means, treated-both, by-list, entered-anywhere}
+use Rattle.laws.proofs.Verdicts.{Means, means, entered-anywhere, treated-both, by-list}
 use Rattle.laws.proofs.TablesTold.{counted-only}
 use Rattle.laws.proofs.RingsDiscount.{counted-row}
 use Rattle.laws.proofs.Runs.{Full}

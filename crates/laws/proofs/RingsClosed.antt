@@ -8,7 +8,7 @@ use mathlib.Core.Logic.{⊎-elim}
 use Rattle.std.proofs.shelf.Tests.{and-parts, and-from, both-ways, or-left, or-right, cases-bool, not-true, not-from-false}
 use Rattle.rules.specs.Tree.{Name, if_then_else_}
 use Rattle.rules.specs.Names.{same, among}
-use Rattle.rules.specs.Tables.{NameRow, EdgeRow, Counts, some-row, look, fresh}
+use Rattle.rules.specs.Tables.{NameRow, EdgeRow, Counts, some-row, fresh, look}
 use Rattle.rules.specs.Rings.{component, has-other, has-entry, led-into, closed}
 use Rattle.rules.specs.Rings.Leads.{here}
 use Rattle.rules.proofs.Leading.{component-told}

@@ -9,16 +9,16 @@ use mathlib.Core.Bool.{Bool, true, false, not, _||_}
 use mathlib.Core.List.{List, [], _∷_}
 use lib.Dec.{eqb, ltb}
 use lib.ListN.{length}
-use Rattle.rules.specs.Tree.{Head, Chain, Name, nameOf, if_then_else_}
+use Rattle.rules.specs.Tree.{Head, Chain, Name, if_then_else_, nameOf}
 use Rattle.rules.specs.Kinds.{member}
-use Rattle.rules.specs.Grammar.{Way, words-fit, children-of, step, misplaced, may-end, root}
+use Rattle.rules.specs.Grammar.{words-fit, Way, children-of, step, misplaced, may-end, root}
 use Rattle.rules.specs.Refusals.{Outcome, andThen, bad-link, too-deep, bad-record, declared-full, names-full, edges-full}
 use Rattle.rules.specs.Refusals.Outcome.{fine, refused}
 use Rattle.rules.specs.Words.{first-child, next, headAt, records}
 use Rattle.rules.specs.Check.{most-nesting, tree-fits, take, stop, walk, check}
 use Rattle.rules.specs.Names.{same, declared}
 use Rattle.rules.specs.Counting.{Event, events-of}
-use Rattle.rules.specs.Tables.{EdgeRow, Counts, Room, need, declare, fresh, row-of, edge-of, need-name, need-edge, grow-edge, hold, enter, fill, no-rows, some-row}
+use Rattle.rules.specs.Tables.{EdgeRow, Counts, no-rows, Room, some-row, need, declare, fresh, row-of, edge-of, need-name, need-edge, grow-edge, hold, enter, fill}
 use Rattle.rules.specs.Calls.{fill-declared, fill-tables}
 use Rattle.laws.proofs.Basics.{elim-both}
 

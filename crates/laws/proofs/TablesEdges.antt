@@ -6,7 +6,7 @@
 use Prim.Native.Nat.{ℕ, _+_}
 use native.Mathlib.Omega.{arith}
 use mathlib.Core.Path.{_≡_, refl, sym, ap, _∙_, subst₂}
-use mathlib.Core.Bool.{Bool, true, false, _||_, or-assoc}
+use mathlib.Core.Bool.{Bool, true, false, _||_, or-assoc, or-self}
 use mathlib.Core.List.{List, [], _∷_}
 use Rattle.std.proofs.shelf.Tests.{and-parts, and-from}
 use Rattle.rules.specs.Tree.{Name, if_then_else_}
@@ -15,7 +15,7 @@ use Rattle.rules.specs.Counting.{Event}
 use Rattle.rules.specs.Tables.{EdgeRow, Counts, some-row, edge-of, reads, writes}
 use Rattle.rules.specs.Rings.{total}
 use Rattle.rules.proofs.SameNames.{same-eq, same-refl}
-use Rattle.laws.proofs.Basics.{or-swap, or-twice, Commutes}
+use Rattle.laws.proofs.Basics.{or-swap, Commutes}
 use Rattle.laws.proofs.TablesRows.{with-change, some-with-change, total-with-change}
 use Rattle.laws.proofs.TablesFilled.{new-edge, adds-edge, held-by, all-held, entered}
 
@@ -28,12 +28,13 @@ edge-refl a b = and-from (same a a) (same b b) (same-refl a) (same-refl b)
 
 -- THE EDGES THERE ARE
 
+-- some edge passes a test of its two names
 abbrev pub some-edge : (Name → Name → Bool) → List EdgeRow → Bool
 some-edge p rs = some-row (λ r. p (r .from) (r .to)) rs
 
 some-edge-changed : (p : Name → Name → Bool) (a b : Name) (e : Event) (rs : List EdgeRow) → some-edge p (with-change (edge-of a b) (new-edge a b) (adds-edge e) rs) ≡ (p a b || some-edge p rs)
 some-edge-changed p a b e rs = some-with-change (λ r. p (r .from) (r .to)) (edge-of a b) (new-edge a b) (adds-edge e) (p a b) refl
-  (λ r q. let (x, y) = edge-eq a b r q in subst₂ (λ (u v : Name). p u v ≡ (p a b || p u v)) x y (or-twice (p a b))) rs
+  (λ r q. let (x, y) = edge-eq a b r q in subst₂ (λ (u v : Name). p u v ≡ (p a b || p u v)) x y (sym (or-self (p a b)))) rs
 
 -- a test of the edges that an event brings
 abbrev pub held-edge : (Name → Name → Bool) → List Name → Name → Bool
@@ -47,6 +48,7 @@ some-edge-held p e (h ∷ hs) c =
   ∙ (ap (λ (z : Bool). held-edge p hs (e .name) || z) (some-edge-changed p h (e .name) e (c .edges))
   ∙ (or-swap (held-edge p hs (e .name)) (p h (e .name)) (some-edge p (c .edges)) ∙ sym (or-assoc (p h (e .name)) (held-edge p hs (e .name)) (some-edge p (c .edges)))))
 
+-- the same after an event
 abbrev pub edged : (Name → Name → Bool) → Event → Bool → Bool
 edged p e b = held-edge p (e .holders) (e .name) || b
 
@@ -68,6 +70,7 @@ abbrev pub weighs : (assigns : Bool) → Event → ℕ
 weighs true e = writes e
 weighs false e = reads e
 
+-- the weights of the edges that pass a test
 abbrev pub weights : (assigns : Bool) → (Name → Name → Bool) → List EdgeRow → ℕ
 weights a p rs = total (λ r. p (r .from) (r .to)) (weight a) rs
 

@@ -9,7 +9,7 @@
 use Prim.Native.Nat.{_+_}
 use native.Mathlib.Omega.{arith}
 use mathlib.Core.Path.{_≡_, refl, sym, ap, _∙_, subst}
-use mathlib.Core.Bool.{Bool, true, false, cond, _&&_, _||_, or-assoc}
+use mathlib.Core.Bool.{Bool, true, false, cond, _&&_, _||_, or-assoc, or-self, or-comm}
 use mathlib.Core.List.{List, [], _∷_}
 use Rattle.std.proofs.shelf.Tests.{false≢true}
 use Rattle.rules.specs.Tree.{Name}
@@ -17,7 +17,7 @@ use Rattle.rules.specs.Names.{same}
 use Rattle.rules.specs.Counting.{Event}
 use Rattle.rules.specs.Tables.{NameRow, EdgeRow, Counts, some-row, fresh, look, row-of, edge-of, reads, writes}
 use Rattle.rules.proofs.SameNames.{same-eq}
-use Rattle.laws.proofs.Basics.{or-swap, or-twice, or-turn, cond-ap, cond-nest, cond-commutes, by-same, Commutes}
+use Rattle.laws.proofs.Basics.{or-swap, or-turn, cond-ap, cond-nest, cond-commutes, by-same, Commutes}
 use Rattle.laws.proofs.TablesRows.{with-row, with-change, some-with-row, some-with-change}
 
 -- an edge's row before anything is counted
@@ -78,6 +78,7 @@ look-all-held m e [] c = refl
 look-all-held m e (h ∷ hs) c =
   look-all-held m e hs (held-by e h c) ∙ (look-with-row m (e .name) (with-row (row-of h) (fresh h) (c .names)) ∙ look-with-row m h (c .names))
 
+-- a name's row after an event
 abbrev pub seen : Name → Event → NameRow → NameRow
 seen m e r = cond (same m (e .name)) (adds e r) r
 
@@ -85,11 +86,7 @@ pub look-entered : (m : Name) (e : Event) (c : Counts) → look m (entered e c .
 look-entered m e c = look-with-change m (e .name) e (all-held e (e .holders) c .names) ∙ ap (seen m e) (look-all-held m e (e .holders) c)
 
 or-turned : (a b c : Bool) → ((a || b) || c) ≡ ((a || c) || b)
-or-turned true b c = refl
-or-turned false true true = refl
-or-turned false true false = refl
-or-turned false false true = refl
-or-turned false false false = refl
+or-turned a b c = or-assoc a b c ∙ (ap (λ (d : Bool). a || d) (or-comm b c) ∙ sym (or-assoc a c b))
 
 adds-swap : (x y : Event) (r : NameRow) → adds x (adds y r) ≡ adds y (adds x r)
 adds-swap x y r =
@@ -102,6 +99,7 @@ seen-commutes m x y r = cond-commutes (same m (x .name)) (same m (y .name)) (add
 
 -- THE NAMES THERE ARE
 
+-- some name with a row passes a test
 abbrev pub some-name : (Name → Bool) → List NameRow → Bool
 some-name p rs = some-row (λ r. p (r .name)) rs
 
@@ -110,7 +108,7 @@ some-name-with p n rs = some-with-row (λ r. p (r .name)) (row-of n) (fresh n) (
 
 some-name-changed : (p : Name → Bool) (n : Name) (e : Event) (rs : List NameRow) → some-name p (with-change (row-of n) (fresh n) (adds e) rs) ≡ (p n || some-name p rs)
 some-name-changed p n e rs = some-with-change (λ r. p (r .name)) (row-of n) (fresh n) (adds e) (p n) refl
-  (λ r q. subst (λ (x : Name). p x ≡ (p n || p x)) (same-eq n (r .name) q) (or-twice (p n))) rs
+  (λ r q. subst (λ (x : Name). p x ≡ (p n || p x)) (same-eq n (r .name) q) (sym (or-self (p n)))) rs
 
 -- a test of the names that an event's holders bring
 abbrev pub held-name : (Name → Bool) → List Name → Name → Bool
@@ -124,6 +122,7 @@ some-name-held p e (h ∷ hs) c =
   ∙ (ap (λ (z : Bool). held-name p hs (e .name) || z) (some-name-with p (e .name) (with-row (row-of h) (fresh h) (c .names)) ∙ ap (λ (z : Bool). p (e .name) || z) (some-name-with p h (c .names)))
   ∙ or-turn (held-name p hs (e .name)) (p (e .name)) (p h) (some-name p (c .names)))
 
+-- the same after an event
 abbrev pub named : (Name → Bool) → Event → Bool → Bool
 named p e b = (p (e .name) || held-name p (e .holders) (e .name)) || b
 
@@ -137,6 +136,7 @@ named-commutes p x y r = or-swap (p (x .name) || held-name p (x .holders) (x .na
 
 -- THE ENTRIES
 
+-- some entry's name passes a test
 abbrev pub some-entry : (Name → Bool) → List NameRow → Bool
 some-entry p rs = some-row (λ r. r .entry && p (r .name)) rs
 
@@ -148,6 +148,7 @@ some-entry-held p e [] c = refl
 some-entry-held p e (h ∷ hs) c =
   some-entry-held p e hs (held-by e h c) ∙ (some-entry-with p (e .name) (with-row (row-of h) (fresh h) (c .names)) ∙ some-entry-with p h (c .names))
 
+-- the same after an event
 abbrev pub entries : (Name → Bool) → Event → Bool → Bool
 entries p e b = (e .entry && p (e .name)) || b
 

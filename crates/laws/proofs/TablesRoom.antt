@@ -4,7 +4,7 @@
 --   Bounded, then-bounded          an outcome that is a result exactly if a test passes
 --   fits, Larger                   the rows fit; tables grow
 --   all-declared, declare-bounded  the declared names, each once
---   fill-bounded, fill-filled      names and edges
+--   fill-bounded                   names and edges
 use Prim.Native.Nat.{ℕ, suc, _+_, _≤_}
 use native.Mathlib.Omega.{arith}
 use mathlib.Core.Path.{_≡_, refl, sym, ap, _∙_, subst}
@@ -20,7 +20,7 @@ use Rattle.rules.specs.Refusals.{Outcome, andThen, declared-full, names-full, e
 use Rattle.rules.specs.Refusals.Outcome.{fine, refused}
 use Rattle.rules.specs.Names.{same}
 use Rattle.rules.specs.Counting.{Event}
-use Rattle.rules.specs.Tables.{Counts, Room, no-rows, some-row, need, fresh, row-of, edge-of, need-name, need-edge, grow-edge, grow-name, hold, enter, fill, declare}
+use Rattle.rules.specs.Tables.{Counts, no-rows, Room, some-row, need, declare, fresh, row-of, edge-of, need-name, need-edge, grow-edge, grow-name, hold, enter, fill}
 use Rattle.rules.proofs.SameNames.{same-refl}
 use Rattle.laws.proofs.TablesRows.{with-row, with-change, change-with, with-row-there, with-row-new}
 use Rattle.laws.proofs.TablesFilled.{new-edge, adds-edge, adds, held-by, all-held, entered, filled}
@@ -202,7 +202,3 @@ module _ (space : Room) where
 
   pub fill-bounded : (es : List Event) → Bounded (fits space (filled es no-rows)) (filled es no-rows) (fill space es no-rows)
   fill-bounded es = fill-onward es no-rows (and-from (leb 0 (space .names)) (leb 0 (space .edges)) (le-leb 0 (space .names) (omega arith)) (le-leb 0 (space .edges) (omega arith)))
-
-  -- what a filling with room gives is the filling without bound
-  pub fill-filled : (es : List Event) (c : Counts) → fill space es no-rows ≡ fine c → c ≡ filled es no-rows
-  fill-filled es c e = subst (Bounded (fits space (filled es no-rows)) (filled es no-rows)) e (fill-bounded es) .1

@@ -6,14 +6,14 @@
 --   equal-sizes                          the same keys, equally many rows
 use Prim.Native.Nat.{suc}
 use mathlib.Core.Path.{_≡_, refl, sym, ap, _∙_, subst}
-use mathlib.Core.Bool.{Bool, true, false, cond, _&&_, _||_, not}
+use mathlib.Core.Bool.{Bool, true, false, cond, _&&_, _||_, not, or-self}
 use mathlib.Core.List.{List, [], _∷_}
 use mathlib.Core.Logic.{inl, inr}
 use lib.ListN.{length}
 use Rattle.std.proofs.shelf.Tests.{true≢false, false≢true, cases-bool, or-left, or-from, and-right}
 use Rattle.rules.specs.Tree.{if_then_else_}
 use Rattle.rules.specs.Tables.{some-row}
-use Rattle.laws.proofs.Basics.{or-twice, by-equal}
+use Rattle.laws.proofs.Basics.{by-equal}
 use Rattle.laws.proofs.TablesRows.{with-row, with-change, some-with-row, some-with-change}
 
 module _ {Row K : Type 0} (key : Row → K) (eq : K → K → Bool) where
@@ -26,6 +26,7 @@ module _ {Row K : Type 0} (key : Row → K) (eq : K → K → Bool) where
   Single [] = Unit {0}
   Single (r ∷ rs) = (has-key (key r) rs ≡ false) × Single rs
 
+  -- the rows without the one that has this key
   abbrev without : K → List Row → List Row
   without k [] = []
   without k (r ∷ rs) = if eq k (key r) then rs else r ∷ without k rs
@@ -49,7 +50,7 @@ module _ {Row K : Type 0} (key : Row → K) (eq : K → K → Bool) (sound : (a 
       inl e ↦ rw e (ap (λ (x : K). has-key key eq x rs) (keeps r) ∙ p .0, p .1)
     | inr e ↦ rw e
         (some-with-change (λ s. eq (key r) (key s)) (λ s. eq (key new) (key s)) new to (eq (key r) (key new)) (ap (eq (key r)) (keeps new))
-          (λ s q. ap (eq (key r)) (keeps s) ∙ subst (λ (x : K). eq (key r) x ≡ (eq (key r) (key new) || eq (key r) x)) (sound (key new) (key s) q) (or-twice (eq (key r) (key new)))) rs
+          (λ s q. ap (eq (key r)) (keeps s) ∙ subst (λ (x : K). eq (key r) x ≡ (eq (key r) (key new) || eq (key r) x)) (sound (key new) (key s) q) (sym (or-self (eq (key r) (key new))))) rs
           ∙ or-from (eq (key r) (key new)) (has-key key eq (key r) rs) (turned (key new) (key r) e) (p .0),
          single-with-change new to keeps rs (p .1)) ]
 

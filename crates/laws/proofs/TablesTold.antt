@@ -16,7 +16,7 @@ use Rattle.rules.specs.Tables.{NameRow, Counts, no-rows, look}
 use Rattle.rules.specs.Law.{In, Counted}
 use Rattle.rules.proofs.SameNames.{same-eq, same-refl}
 use Rattle.laws.proofs.TablesFilled.{adds, entered, filled, look-entered}
-use Rattle.laws.proofs.TablesEdges.{held-edge, some-edge, some-edge-entered}
+use Rattle.laws.proofs.TablesEdges.{some-edge, held-edge, some-edge-entered}
 
 -- ROWS
 

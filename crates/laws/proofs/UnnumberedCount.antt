@@ -13,13 +13,14 @@ use lib.Dec.{eqb}
 use Rattle.rules.specs.Tree.{Head, Chain, Name, if_then_else_, _is_, nameOf, unnumbered-head, unnumbered}
 use Rattle.rules.specs.Tree.Chain.{end, link}
 use Rattle.rules.specs.Kinds.{export-declaration, export-name, fn-declaration, class-declaration, var-declaration, declarator, function, identifier, arrow, call-expression, name-pattern, property-name, arguments-symbol}
-use Rattle.rules.specs.Names.{among, namesOf, distinct, binds, nests, keep, bound, Under, under, under-nothing, declares, declaring, declared-below, exported}
-use Rattle.rules.specs.Counting.{Event, Found, Around, Role, _followed-by_, holders, refer, marked, marks, reference, reading, readings, named-here, calls-eval, own, opens, leave, inside, count}
+use Rattle.rules.specs.Names.{among, namesOf, distinct, binds, nests, keep, bound, Under, under-nothing, under, declares, declaring, declared-below, exported}
+use Rattle.rules.specs.Counting.{Event, holders, refer, marked, Found, _followed-by_, Role, Around, reference, reading, readings, marks, named-here, calls-eval, own, opens, leave, inside, count}
 use Rattle.rules.specs.Counting.Role.{declared-here, written, read-and-written}
 use Rattle.rules.specs.Tables.{Counts}
 use Rattle.laws.proofs.Basics.{cond-ap}
 use Rattle.laws.proofs.TablesFilled.{entered, filled}
 
+-- records, their numbers apart
 abbrev pub unnumbered-heads : List Head → List Head
 unnumbered-heads [] = []
 unnumbered-heads (h ∷ hs) = unnumbered-head h ∷ unnumbered-heads hs
@@ -28,10 +29,12 @@ unnumbered-heads (h ∷ hs) = unnumbered-head h ∷ unnumbered-heads hs
 abbrev pub unplaced : Event → Event
 unplaced e = record { name = e .name; writes = e .writes; holders = e .holders; entry = e .entry; at = 0 }
 
+-- events, their places apart
 abbrev pub unnumbered-events : List Event → List Event
 unnumbered-events [] = []
 unnumbered-events (e ∷ es) = unplaced e ∷ unnumbered-events es
 
+-- what is found, the places of its events apart
 abbrev pub unnumbered-found : Found → Found
 unnumbered-found f = record { events = unnumbered-events (f .events); found-arguments = f .found-arguments; found-direct-eval = f .found-direct-eval }
 

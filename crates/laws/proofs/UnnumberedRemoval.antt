@@ -9,9 +9,9 @@ use mathlib.Core.Path.{_≡_, refl, sym, ap, ap₂, _∙_}
 use mathlib.Core.Bool.{Bool, true, false, _&&_, _||_, not}
 use Rattle.rules.specs.Tree.{Head, Chain, Name, if_then_else_, _is_, flagged, isEnd, below, after, first-is, first-flagged, first-symbol, first-name, alone, append, unnumbered-head, unnumbered}
 use Rattle.rules.specs.Tree.Chain.{end, link}
-use Rattle.rules.specs.Kinds.{expression, empty-statement, block, expression-statement, plain-expression, declarator, var-declaration, identifier, call-expression, assignment, name-pattern, method, property, static-block}
+use Rattle.rules.specs.Kinds.{empty-statement, block, expression-statement, var-declaration, declarator, method, property, static-block, identifier, plain-expression, call-expression, assignment, name-pattern, expression}
 use Rattle.rules.specs.Judges.{Lawful}
-use Rattle.rules.specs.Removal.{By, Place, Left, Verdict, place-inside, can-drop-assignment-to, first-acts, entered, swept, keeps-class, name-goes, all-go, only-identifiers, wraps-object, wrapped-object, fn-goes, class-goes, declarator-goes, specifier-goes, import-emptied, var-emptied, var-restates, assignment-yields, call-unwraps, verdict, become, values, joined, both, done, treated, treat}
+use Rattle.rules.specs.Removal.{By, Place, place-inside, can-drop-assignment-to, first-acts, entered, swept, keeps-class, name-goes, all-go, only-identifiers, wraps-object, wrapped-object, fn-goes, class-goes, declarator-goes, specifier-goes, import-emptied, var-emptied, var-restates, assignment-yields, call-unwraps, Verdict, verdict, become, values, joined, Left, both, done, treated, treat}
 use Rattle.rules.specs.Removal.Verdict.{stays, sweeps, empties, unlinks, restates, yields, unwraps}
 use Rattle.laws.proofs.Basics.{cond-ap, if-both}
 

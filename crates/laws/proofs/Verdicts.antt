@@ -17,8 +17,8 @@ use lib.Dec.{eqb}
 use Rattle.std.proofs.shelf.Tests.{cond-both, and-parts, both-ways, not-true, eqb-true}
 use Rattle.rules.specs.Tree.{Head, Chain, Name, _is_, flagged, nameOf, isEnd, below, after, first-is, first-flagged, first-symbol, first-name}
 use Rattle.rules.specs.Tree.Chain.{end, link}
-use Rattle.rules.specs.Kinds.{for-statement, import-item, specifier, fn-declaration, class-declaration, var-declaration, declarator, call-expression, assignment, name-pattern, member, module-root, script-root, block, plain-statement, function-expression, object}
-use Rattle.rules.specs.Removal.{entered, By, Place, Left, Verdict, done, treated, unchanged, only-identifiers, wrapped-object, permitted, retained, unused, never-read, can-drop-binding, first-acts, has-list, name-goes, all-go, wraps-object, fn-goes, class-goes, declarator-goes, specifier-goes, import-emptied, var-emptied, var-restates, assignment-yields, call-unwraps, verdict}
+use Rattle.rules.specs.Kinds.{module-root, script-root, import-item, specifier, block, plain-statement, fn-declaration, class-declaration, var-declaration, for-statement, declarator, function-expression, object, call-expression, assignment, name-pattern, member}
+use Rattle.rules.specs.Removal.{By, Place, permitted, retained, unused, never-read, can-drop-binding, first-acts, has-list, entered, name-goes, all-go, only-identifiers, wraps-object, wrapped-object, fn-goes, class-goes, declarator-goes, specifier-goes, import-emptied, var-emptied, var-restates, assignment-yields, call-unwraps, Verdict, verdict, Left, unchanged, done, treated}
 use Rattle.rules.specs.Removal.Verdict.{stays, sweeps, empties, unlinks, restates, yields, unwraps}
 use Rattle.laws.proofs.Basics.{each-member}
 use Rattle.laws.proofs.Formed.{first-kind}
