@@ -54,7 +54,14 @@ impl<'t> NameSink for Declaring<'t> as DeclaringNames {
     ghost place = { place-of };
 
     fn take(&mut self, n: u32, bearer: Record) -> Result<(), TableFault> {
-        declare(self.table, Id { symbol: bearer.symbol, mark: bearer.mark }, n)
+        declare(
+            self.table,
+            Id {
+                symbol: bearer.symbol,
+                mark: bearer.mark,
+            },
+            n,
+        )
     }
 }
 
