@@ -1,0 +1,4 @@
+mod Declares
+mod Named
+mod Behind
+mod Fills

@@ -1,0 +1,3 @@
+mod declaring;
+
+pub use declaring::fill_declared;
