@@ -1,0 +1,2 @@
+mod Tells
+mod Holders

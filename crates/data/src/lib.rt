@@ -1,0 +1,4 @@
+pub mod event;
+
+pub use event::add;
+pub use event::count_name;
