@@ -1,3 +1,4 @@
 pub mod Ringed
 pub mod Closing
 pub mod Marking
+pub mod Spending

@@ -76,6 +76,17 @@ outside-more edges labels marks k h low ne m =
       (λ (o : v ≡ t → ⊥). ⊎-elim (λ (z : getD marks v 0 ≡ 0). inl (getD-set-other marks t v 1 0 o ∙ z)) (λ z. inr z) (m .others v l))
       (cases-eq v t) }
 
+-- the same of a pair that was read
+pub outside-stay : (edges : List (ℕ × ℕ)) (labels marks : List ℕ) (k : ℕ) (e : ℕ × ℕ) → e ≡ getD edges k (0, 0) → getD labels (e .0) 0 ≡ getD labels (e .1) 0
+  → Outside edges labels k marks → Outside edges labels (k + 1) marks
+outside-stay edges labels marks k e is h m = outside-same edges labels marks k (subst (λ (p : ℕ × ℕ). getD labels (p .0) 0 ≡ getD labels (p .1) 0) is h) m
+
+pub outside-next : (edges : List (ℕ × ℕ)) (labels marks : List ℕ) (k : ℕ) (e : ℕ × ℕ) → e ≡ getD edges k (0, 0) → k < length edges → target edges k < length marks
+  → (getD labels (e .0) 0 ≡ getD labels (e .1) 0 → ⊥) → Outside edges labels k marks → Outside edges labels (k + 1) (set marks (e .1) 1)
+outside-next edges labels marks k e is h low ne m =
+  subst (λ (p : ℕ × ℕ). Outside edges labels (k + 1) (set marks (p .1) 1)) (sym is)
+    (outside-more edges labels marks k h low (subst (λ (p : ℕ × ℕ). getD labels (p .0) 0 ≡ getD labels (p .1) 0 → ⊥) is ne) m)
+
 -- marks tell the edges from other labels
 pub quiet-closed : (entered : ℕ → Bool) (edges : List (ℕ × ℕ)) (labels marks : List ℕ) (label : ℕ) → ((k : ℕ) → k < length edges → target edges k < length labels)
   → Outside edges labels (length edges) marks → Quiet entered labels marks label → Closed entered edges labels label
