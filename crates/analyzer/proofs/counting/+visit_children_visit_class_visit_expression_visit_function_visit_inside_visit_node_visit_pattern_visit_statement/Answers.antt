@@ -6,11 +6,11 @@ use Rattle.analyzer.specs.Walk.{state, walk}
 use Rattle.analyzer.proofs.Walks.{walk_on}
 use Rattle.analyzer.proofs.counting.+visit_children_visit_class_visit_expression_visit_function_visit_inside_visit_node_visit_pattern_visit_statement.Goals as goal
 
-pub visit-children-loop-n-preserved : goal.visit-children-loop-n-preserved
-visit-children-loop-n-preserved t c =
+pub visit_children-loop-n-preserved : goal.visit_children-loop-n-preserved
+visit_children-loop-n-preserved t c =
     let steps = c.in-Some.ensures.steps in
     let inv = c.loop-n.invariant in
-    let visited = c.visit-node.new in (
+    let visited = c.visit_node.new in (
       search rules,
       search rules,
       search rules,
@@ -19,20 +19,20 @@ visit-children-loop-n-preserved t c =
       search rules,
       walk_on c.args.scope.now c.loop-n.scope c.args.path.now c.loop-n.path c.args.words.now c.loop-n.n-iterator.words.now
           c.into-iter-n-iterator.result.at c.loop-n.n-iterator.at c.in-Some.n c.in-Some.node _ _ _
-          inv.2 inv.3 inv.0.0 steps.1.0 steps.1.2 inv.6 c.in-ok-visit-node.ensures.walk
+          inv.2 inv.3 inv.0.0 steps.1.0 steps.1.2 inv.6 c.in_ok-visit_node.ensures.walk
           ∙ ap (λ (at : ℕ). walk (here c.args.scope.now c.args.path.now) (tree_of c.args.words.now at) (state visited.names visited.edges visited.notes)) (sym steps.1.1),
     )
 
-pub visit-children-returns-in-err-visit-node : goal.visit-children-returns-in-err-visit-node
-visit-children-returns-in-err-visit-node t c =
+pub visit_children-returns-in_err-visit_node : goal.visit_children-returns-in_err-visit_node
+visit_children-returns-in_err-visit_node t c =
     let steps = c.in-Some.ensures.steps in
     let inv = c.loop-n.invariant in
     let stops =
     walk_on c.args.scope.now c.loop-n.scope c.args.path.now c.loop-n.path c.args.words.now c.loop-n.n-iterator.words.now
     c.into-iter-n-iterator.result.at c.loop-n.n-iterator.at c.in-Some.n c.in-Some.node _ _ _
-    inv.2 inv.3 inv.0.0 steps.1.0 steps.1.2 inv.6 c.in-err-visit-node.ensures.walk in
+    inv.2 inv.3 inv.0.0 steps.1.0 steps.1.2 inv.6 c.in_err-visit_node.ensures.walk in
     record { scope = search rules; path = search rules; names_behind = search rules; edges_behind = search rules; walk = search rules }
 
-pub visit-children-returns : goal.visit-children-returns
+pub visit_children-returns : goal.visit_children-returns
 unfolding walk
-visit-children-returns t c = search rules
+visit_children-returns t c = search rules

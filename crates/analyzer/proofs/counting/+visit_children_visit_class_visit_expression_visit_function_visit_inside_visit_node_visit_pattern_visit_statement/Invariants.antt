@@ -10,32 +10,32 @@ use Rattle.analyzer.specs.Scopes.{here}
 use Rattle.analyzer.specs.Walk.{state, walk}
 use Rattle.analyzer.proofs.counting.+visit_children_visit_class_visit_expression_visit_function_visit_inside_visit_node_visit_pattern_visit_statement.Given as goal
 
-abbrev pub decreases-visit-children : goal.decreases-visit-children
-decreases-visit-children l = 4 * l.left
+abbrev pub decreases-visit_children : goal.decreases-visit_children
+decreases-visit_children l = 4 * l.left
 
-abbrev pub decreases-visit-inside : goal.decreases-visit-inside
-decreases-visit-inside l = 4 * l.left + 1
+abbrev pub decreases-visit_inside : goal.decreases-visit_inside
+decreases-visit_inside l = 4 * l.left + 1
 
-abbrev pub decreases-visit-class : goal.decreases-visit-class
-decreases-visit-class l = 4 * l.left + 2
+abbrev pub decreases-visit_class : goal.decreases-visit_class
+decreases-visit_class l = 4 * l.left + 2
 
-abbrev pub decreases-visit-expression : goal.decreases-visit-expression
-decreases-visit-expression l = 4 * l.left + 2
+abbrev pub decreases-visit_expression : goal.decreases-visit_expression
+decreases-visit_expression l = 4 * l.left + 2
 
-abbrev pub decreases-visit-function : goal.decreases-visit-function
-decreases-visit-function l = 4 * l.left + 2
+abbrev pub decreases-visit_function : goal.decreases-visit_function
+decreases-visit_function l = 4 * l.left + 2
 
-abbrev pub decreases-visit-pattern : goal.decreases-visit-pattern
-decreases-visit-pattern l = 4 * l.left + 2
+abbrev pub decreases-visit_pattern : goal.decreases-visit_pattern
+decreases-visit_pattern l = 4 * l.left + 2
 
-abbrev pub decreases-visit-statement : goal.decreases-visit-statement
-decreases-visit-statement l = 4 * l.left + 2
+abbrev pub decreases-visit_statement : goal.decreases-visit_statement
+decreases-visit_statement l = 4 * l.left + 2
 
-abbrev pub decreases-visit-node : goal.decreases-visit-node
-decreases-visit-node l = 4 * l.left + 3
+abbrev pub decreases-visit_node : goal.decreases-visit_node
+decreases-visit_node l = 4 * l.left + 3
 
-abbrev pub invariant-visit-children-loop-n : goal.invariant-visit-children-loop-n
-invariant-visit-children-loop-n l =
+abbrev pub invariant-visit_children-loop-n : goal.invariant-visit_children-loop-n
+invariant-visit_children-loop-n l =
     Along l.words l.n-iterator l.left
     × (2 * reached (tree_of l.words l.n-iterator.at) ≤ length l.seen)
     × (l.scope ≡ l.initial.scope)

@@ -10,22 +10,22 @@ use Rattle.analyzer.proofs.Fills.{rows_stay, reads_none, zeroed_holds, agreed_fi
 use Rattle.analyzer.proofs.Named.{declared_named}
 use Rattle.analyzer.proofs.declaring.fill_declared.Goals as goal
 
-pub returns-then-has-row : goal.returns-then-has-row
-returns-then-has-row c = rows_stay (tree_of c.args.words.now 1) c.args.table.now (sym c.has_row.ensures ∙ c.if-has-row.true)
+pub returns-then-has_row : goal.returns-then-has_row
+returns-then-has_row c = rows_stay (tree_of c.args.words.now 1) c.args.table.now (sym c.has_row.ensures ∙ c.if-has_row.true)
 
 pub returns-in-Ok : goal.returns-in-Ok
 returns-in-Ok c =
     let tree = tree_of c.args.words.now 1 in
     let table = c.args.table.now in
-    agreed_fills tree table c.collect-decls.new.table _ (reads_none table (sym c.has_row.ensures ∙ c.if-has-row.false))
-    (declares_agree table (declared tree) [] c.zero-rows.new.table (declared_named root under_nothing tree c.requires.tree.formed) (zeroed_holds table _ c.zero-rows.ensures.words))
+    agreed_fills tree table c.collect_decls.new.table _ (reads_none table (sym c.has_row.ensures ∙ c.if-has_row.false))
+    (declares_agree table (declared tree) [] c.zero_rows.new.table (declared_named root under_nothing tree c.requires.tree.formed) (zeroed_holds table _ c.zero_rows.ensures.words))
     c.in-Ok.ensures.names
 
 pub returns-in-Err : goal.returns-in-Err
 returns-in-Err c =
     let tree = tree_of c.args.words.now 1 in
     let table = c.args.table.now in
-    agreed_full tree _ _ table _ _ (reads_none table (sym c.has_row.ensures ∙ c.if-has-row.false))
-    (declares_agree table (declared tree) [] c.zero-rows.new.table (declared_named root under_nothing tree c.requires.tree.formed) (zeroed_holds table _ c.zero-rows.ensures.words))
+    agreed_full tree _ _ table _ _ (reads_none table (sym c.has_row.ensures ∙ c.if-has_row.false))
+    (declares_agree table (declared tree) [] c.zero_rows.new.table (declared_named root under_nothing tree c.requires.tree.formed) (zeroed_holds table _ c.zero_rows.ensures.words))
     c.in-Err.ensures.names
-    (zeroed_again declared_width table c.zero-rows.new.table c.collect-decls.new.table c.zero-rows-in-Err.new.table c.zero-rows.ensures.words c.in-Err.ensures.behind c.zero-rows-in-Err.ensures.words)
+    (zeroed_again declared_width table c.zero_rows.new.table c.collect_decls.new.table c.zero_rows-in-Err.new.table c.zero_rows.ensures.words c.in-Err.ensures.behind c.zero_rows-in-Err.ensures.words)

@@ -10,35 +10,35 @@ use Rattle.data.specs.Events.{tables}
 use Rattle.analyzer.specs.Walk.{leaving}
 use Rattle.analyzer.proofs.Leaves.{taken, passed, leaves}
 use Rattle.analyzer.proofs.leaving.leave_scope.Goals as goal
-use Rattle.analyzer.proofs.leaving.leave_scope.Goals.{then-found+in-ok-mark-declared, else-found, else-found-2-via-then-found-2+else-is, else-found-2-via-else-found-2}
+use Rattle.analyzer.proofs.leaving.leave_scope.Goals.{then-found+in_ok-mark_declared, else-found, else-found-2-via-then-found-2+else-is, else-found-2-via-else-found-2}
 
-pub returns-in-err-mark-declared : goal.returns-in-err-mark-declared
+pub returns-in_err-mark_declared : goal.returns-in_err-mark_declared
 unfolding leaving
-returns-in-err-mark-declared c = search rules
+returns-in_err-mark_declared c = search rules
 
-pub returns-in-err-mark-parameters : goal.returns-in-err-mark-parameters
-returns-in-err-mark-parameters c =
-    let fault = err_from_is_err_and c.from-residual-in-err-mark-parameters.result c.from-residual-in-err-mark-parameters.ensures.1 in
+pub returns-in_err-mark_parameters : goal.returns-in_err-mark_parameters
+returns-in_err-mark_parameters c =
+    let fault = err_from_is_err_and c.from-residual-in_err-mark_parameters.result c.from-residual-in_err-mark_parameters.ensures.1 in
     record {
       marks = rw (fault.1, fault.2) (λ edges.
           leaves _ _ c.args.found _ (tables c.if-found.names edges) _
           (elim c.if-found.branch [
-            | then-found+in-ok-mark-declared w ↦ taken _ _ _ _ w.if-found.true (w.in-ok-mark-declared.ensures.marks edges ∙ ap (λ (n : List ℕ). fine (tables n edges)) (sym w.names-is))
+            | then-found+in_ok-mark_declared w ↦ taken _ _ _ _ w.if-found.true (w.in_ok-mark_declared.ensures.marks edges ∙ ap (λ (n : List ℕ). fine (tables n edges)) (sym w.names-is))
             | else-found w ↦ passed _ _ _ _ w.if-found.false (ap (λ (n : List ℕ). tables n edges) (sym w.names-is))
           ])
-          (taken _ _ _ _ (and_from _ _ c.if-found-2.true (sym c.is.ensures ∙ c.if-is.true)) (c.in-err-mark-parameters.ensures.marks edges)));
+          (taken _ _ _ _ (and_from _ _ c.if-found-2.true (sym c.is.ensures ∙ c.if-is.true)) (c.in_err-mark_parameters.ensures.marks edges)));
       behind = search rules;
     }
 
-pub returns-in-ok-mark-parameters : goal.returns-in-ok-mark-parameters
-returns-in-ok-mark-parameters c = record {
+pub returns-in_ok-mark_parameters : goal.returns-in_ok-mark_parameters
+returns-in_ok-mark_parameters c = record {
   marks = λ edges.
       leaves _ _ c.args.found _ (tables c.if-found.names edges) _
       (elim c.if-found.branch [
-        | then-found+in-ok-mark-declared w ↦ taken _ _ _ _ w.if-found.true (w.in-ok-mark-declared.ensures.marks edges ∙ ap (λ (n : List ℕ). fine (tables n edges)) (sym w.names-is))
+        | then-found+in_ok-mark_declared w ↦ taken _ _ _ _ w.if-found.true (w.in_ok-mark_declared.ensures.marks edges ∙ ap (λ (n : List ℕ). fine (tables n edges)) (sym w.names-is))
         | else-found w ↦ passed _ _ _ _ w.if-found.false (ap (λ (n : List ℕ). tables n edges) (sym w.names-is))
       ])
-      (taken _ _ _ _ (and_from _ _ c.if-found-2.true (sym c.is.ensures ∙ c.if-is.true)) (c.in-ok-mark-parameters.ensures.marks edges));
+      (taken _ _ _ _ (and_from _ _ c.if-found-2.true (sym c.is.ensures ∙ c.if-is.true)) (c.in_ok-mark_parameters.ensures.marks edges));
   behind = search rules;
 }
 
@@ -50,7 +50,7 @@ returns-else-found-2 c =
       marks = λ edges.
           leaves _ _ c.args.found _ (tables c.if-found.names edges) _
           (elim c.if-found.branch [
-            | then-found+in-ok-mark-declared w ↦ taken _ _ _ _ w.if-found.true (w.in-ok-mark-declared.ensures.marks edges ∙ ap (λ (n : List ℕ). fine (tables n edges)) (sym w.names-is))
+            | then-found+in_ok-mark_declared w ↦ taken _ _ _ _ w.if-found.true (w.in_ok-mark_declared.ensures.marks edges ∙ ap (λ (n : List ℕ). fine (tables n edges)) (sym w.names-is))
             | else-found w ↦ passed _ _ _ _ w.if-found.false (ap (λ (n : List ℕ). tables n edges) (sym w.names-is))
           ])
           (passed (noted && is_function) _ _ _
@@ -59,5 +59,5 @@ returns-else-found-2 c =
             | else-found-2-via-else-found-2 w ↦ and_left noted is_function w.if-found-2.false
           ])
           refl);
-      behind = elim c.if-found.branch [ then-found+in-ok-mark-declared w ↦ search rules | else-found w ↦ search rules ];
+      behind = elim c.if-found.branch [ then-found+in_ok-mark_declared w ↦ search rules | else-found w ↦ search rules ];
     }

@@ -8,8 +8,8 @@ use Rattle.analyzer.specs.Scopes.{here}
 use Rattle.analyzer.specs.Walk.{state, read_exports}
 use Rattle.analyzer.proofs.reference.+read_exports.Given as goal
 
-abbrev pub decreases-read-exports : goal.decreases-read-exports
-decreases-read-exports l = l.left
+abbrev pub decreases-read_exports : goal.decreases-read_exports
+decreases-read_exports l = l.left
 
 abbrev pub invariant-loop-n : goal.invariant-loop-n
 invariant-loop-n l =

@@ -3,13 +3,13 @@ use Rattle.analyzer.specs.Walk.{referred}
 use Rattle.analyzer.proofs.Paths.{part}
 use Rattle.analyzer.proofs.reference.reference.Goals as goal
 
-pub returns-then-is-own : goal.returns-then-is-own
+pub returns-then-is_own : goal.returns-then-is_own
 unfolding referred
-returns-then-is-own c = search rules
+returns-then-is_own c = search rules
 
-pub returns-in-err-add : goal.returns-in-err-add
+pub returns-in_err-add : goal.returns-in_err-add
 unfolding referred
-returns-in-err-add c =
+returns-in_err-add c =
     let held = part c.args.scope.now.start c.args.scope.now.len c.args.path.now c.requires.start in
     search rules
 

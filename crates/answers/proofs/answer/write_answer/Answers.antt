@@ -4,14 +4,14 @@ use Rattle.answers.proofs.Writing.{said_as, then_said}
 use Rattle.answers.proofs.answer.write_answer.Goals as goal
 
 pub returns-in-BeginRefused : goal.returns-in-BeginRefused
-returns-in-BeginRefused c = said_as _ _ _ _ _ (ap answer_text c.in-BeginRefused.is) c.write-refusal.ensures
+returns-in-BeginRefused c = said_as _ _ _ _ _ (ap answer_text c.in-BeginRefused.is) c.write_refusal.ensures
 
 pub returns-in-ResetRefused : goal.returns-in-ResetRefused
-returns-in-ResetRefused c = said_as _ _ _ _ _ (ap answer_text c.in-ResetRefused.is) c.write-refusal-in-ResetRefused.ensures
+returns-in-ResetRefused c = said_as _ _ _ _ _ (ap answer_text c.in-ResetRefused.is) c.write_refusal-in-ResetRefused.ensures
 
 pub returns-in-PassRefused : goal.returns-in-PassRefused
-returns-in-PassRefused c = said_as _ _ _ _ _ (ap answer_text c.in-PassRefused.is) c.write-refusal-in-PassRefused.ensures
+returns-in-PassRefused c = said_as _ _ _ _ _ (ap answer_text c.in-PassRefused.is) c.write_refusal-in-PassRefused.ensures
 
-pub returns-in-ok-write-refusal : goal.returns-in-ok-write-refusal
-returns-in-ok-write-refusal c =
-    then_said _ _ _ _ _ _ _ c.in-ok-write-refusal.ensures c.write-number.ensures (ap answer_text c.in-RepeatRefused.is)
+pub returns-in_ok-write_refusal : goal.returns-in_ok-write_refusal
+returns-in_ok-write_refusal c =
+    then_said _ _ _ _ _ _ _ c.in_ok-write_refusal.ensures c.write_number.ensures (ap answer_text c.in-RepeatRefused.is)

@@ -7,5 +7,5 @@ pub returns : goal.returns
 returns c =
     let row = c.args.row.now in
     let some : 0 < length row = search rules in
-    then_said c.write-words.result _ _ _ (codes " " ++ decimal (get_or row 0 0)) (words_text (take (length row - 1) (drop 1 row))) (row_text row)
-    c.in-ok-write-number.ensures c.write-words.ensures (row_said row some)
+    then_said c.write_words.result _ _ _ (codes " " ++ decimal (get_or row 0 0)) (words_text (take (length row - 1) (drop 1 row))) (row_text row)
+    c.in_ok-write_number.ensures c.write_words.ensures (row_said row some)

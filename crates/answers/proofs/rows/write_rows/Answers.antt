@@ -7,4 +7,4 @@ pub loop-row-preserved : goal.loop-row-preserved
 loop-row-preserved g c =
     let steps = c.in-Some.ensures.steps in
     let can = c.loop-row.invariant.0 in
-    (omega arith, omega arith, rows_more c.in-Some.row.now (rows_left c.next.new.self) (rows_left c.loop-row.row-iterator) (string_bytes c.loop-row.out) (string_bytes c.write-row.new.out) _ steps.1.0 c.in-ok-write-row.ensures c.loop-row.invariant.2)
+    (omega arith, omega arith, rows_more c.in-Some.row.now (rows_left c.next.new.self) (rows_left c.loop-row.row-iterator) (string_bytes c.loop-row.out) (string_bytes c.write_row.new.out) _ steps.1.0 c.in_ok-write_row.ensures c.loop-row.invariant.2)

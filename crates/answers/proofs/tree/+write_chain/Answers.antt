@@ -12,6 +12,6 @@ loop-n-preserved t c =
     let opened = opened_on words c.loop-n.n-iterator.words.now c.loop-n.n-iterator.at c.next.new.self.at c.in-Some.n node
     c.loop-n.invariant.0.0 steps.1.0 steps.1.1 steps.1.2 in
     let more = chain_more (head_of c.in-Some.n node) (tree_of words node.first) (tree_of words c.next.new.self.at) (tree_of words c.loop-n.n-iterator.at)
-    (string_bytes c.loop-n.out) (string_bytes c.write-head.new.out) (string_bytes c.write-chain.new.out) (string_bytes c.push-str.new.self) _
-    opened c.in-ok-write-head.ensures c.in-ok-write-chain.ensures c.in-ok-push-str.ensures.bytes c.loop-n.invariant.1 in
+    (string_bytes c.loop-n.out) (string_bytes c.write_head.new.out) (string_bytes c.write_chain.new.out) (string_bytes c.push_str.new.self) _
+    opened c.in_ok-write_head.ensures c.in_ok-write_chain.ensures c.in_ok-push_str.ensures.bytes c.loop-n.invariant.1 in
     search rules

@@ -5,8 +5,8 @@ use Rattle.records.specs.Cursor.{Along}
 use Rattle.answers.specs.Lines.{chain_text}
 use Rattle.answers.proofs.tree.+write_chain.Given as goal
 
-abbrev pub decreases-write-chain : goal.decreases-write-chain
-decreases-write-chain l = l.left
+abbrev pub decreases-write_chain : goal.decreases-write_chain
+decreases-write_chain l = l.left
 
 abbrev pub invariant-loop-n : goal.invariant-loop-n
 invariant-loop-n l =

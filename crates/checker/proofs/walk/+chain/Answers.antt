@@ -9,54 +9,54 @@ use Rattle.checker.proofs.walk.+chain.Goals as goal
 pub loop-at-init : goal.loop-at-init
 loop-at-init t c = (omega arith, λ b m. begin _ _ _ _ _ _ _ m)
 
-pub returns-in-err-node : goal.returns-in-err-node
-returns-in-err-node t c =
+pub returns-in_err-node : goal.returns-in_err-node
+returns-in_err-node t c =
     let p = err_from_is_err_and c.from-residual.result c.from-residual.ensures.1 in
-    rw (p.1, p.2) (record { left = tt; is = λ b m. go_untaken {number = number c.in-err-node.field-0.0} {place = place c.in-err-node.field-0.0} (omega arith) (c.loop-at.invariant.1 b m) c.in-err-node.ensures })
+    rw (p.1, p.2) (record { left = tt; is = λ b m. go_untaken {number = number c.in_err-node.field-0.0} {place = place c.in_err-node.field-0.0} (omega arith) (c.loop-at.invariant.1 b m) c.in_err-node.ensures })
 
-pub returns-in-err-count : goal.returns-in-err-count
-returns-in-err-count t c =
-    let p = err_from_is_err_and c.from-residual-in-err-count.result c.from-residual-in-err-count.ensures.1 in
+pub returns-in_err-count : goal.returns-in_err-count
+returns-in_err-count t c =
+    let p = err_from_is_err_and c.from-residual-in_err-count.result c.from-residual-in_err-count.ensures.1 in
     rw (p.1, p.2) (record {
       left = tt;
       is = λ b m.
-          go_below (omega arith) (omega (arith, c.requires.room)) (c.loop-at.invariant.1 b m) c.in-ok-node.ensures c.under.ensures c.in-err-count.ensures.is;
+          go_below (omega arith) (omega (arith, c.requires.room)) (c.loop-at.invariant.1 b m) c.in_ok-node.ensures c.under.ensures c.in_err-count.ensures.is;
     })
 
 -- the record that is taken sets a mark
 taken_less : (t : ℕ) (c : goal.In-ok-count t) → suc (unmarked (set c.loop-at.seen (c.loop-at.at - 1) true)) ≡ unmarked c.loop-at.seen
-taken_less t c = one_less (omega arith) (omega (arith, c.requires.room)) c.in-ok-node.ensures
+taken_less t c = one_less (omega arith) (omega (arith, c.requires.room)) c.in_ok-node.ensures
 
-pub overflow-add-count : goal.overflow-add-count
-overflow-add-count t c =
+pub overflow_add-count : goal.overflow_add-count
+overflow_add-count t c =
     let u = taken_less t c in
     let m = unmarked_most c.args.seen.now in
-    omega (arith, c.in-ok-count.ensures.left, c.loop-at.invariant.0)
+    omega (arith, c.in_ok-count.ensures.left, c.loop-at.invariant.0)
 
-pub overflow-add-count-in-loop-at : goal.overflow-add-count-in-loop-at
-overflow-add-count-in-loop-at t c =
+pub overflow_add-count-in-loop-at : goal.overflow_add-count-in-loop-at
+overflow_add-count-in-loop-at t c =
     let u = taken_less t c in
     let m = unmarked_most c.args.seen.now in
-    omega (arith, c.in-ok-count.ensures.left, c.loop-at.invariant.0)
+    omega (arith, c.in_ok-count.ensures.left, c.loop-at.invariant.0)
 
 pub loop-at-smaller : goal.loop-at-smaller
 loop-at-smaller t c =
     let u = taken_less t c in
-    omega (arith, c.in-ok-count.ensures.left)
+    omega (arith, c.in_ok-count.ensures.left)
 
 pub loop-at-preserved : goal.loop-at-preserved
 loop-at-preserved t c =
     let u = taken_less t c in (
-      omega (arith, c.in-ok-count.ensures.left, c.loop-at.invariant.0),
+      omega (arith, c.in_ok-count.ensures.left, c.loop-at.invariant.0),
       λ b m.
-          go (omega arith) (omega (arith, c.requires.room)) (c.loop-at.invariant.1 b m) c.in-ok-node.ensures c.under.ensures c.in-ok-count.ensures.is,
+          go (omega arith) (omega (arith, c.requires.room)) (c.loop-at.invariant.1 b m) c.in_ok-node.ensures c.under.ensures c.in_ok-count.ensures.is,
     )
 
-pub returns-in-err-stop : goal.returns-in-err-stop
-returns-in-err-stop t c =
-    let p = err_from_is_err_and c.from-residual-in-err-stop.result c.from-residual-in-err-stop.ensures.1 in
-    let e = c.in-err-stop.ensures.1 in
-    rw (p.1, p.2, e) (record { left = tt; is = λ b m. go_short (omega arith) c.in-err-stop.ensures.0 (c.loop-at.invariant.1 b m) })
+pub returns-in_err-stop : goal.returns-in_err-stop
+returns-in_err-stop t c =
+    let p = err_from_is_err_and c.from-residual-in_err-stop.result c.from-residual-in_err-stop.ensures.1 in
+    let e = c.in_err-stop.ensures.1 in
+    rw (p.1, p.2, e) (record { left = tt; is = λ b m. go_short (omega arith) c.in_err-stop.ensures.0 (c.loop-at.invariant.1 b m) })
 
 pub returns : goal.returns
-returns t c = record { left = c.loop-at.invariant.0; is = λ b m. go_ended (omega arith) c.in-ok-stop.ensures (c.loop-at.invariant.1 b m) }
+returns t c = record { left = c.loop-at.invariant.0; is = λ b m. go_ended (omega arith) c.in_ok-stop.ensures (c.loop-at.invariant.1 b m) }

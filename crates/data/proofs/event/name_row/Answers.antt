@@ -6,9 +6,9 @@ use Rattle.data.specs.Events.{name_placed}
 use Rattle.data.proofs.Tells.{told_as}
 use Rattle.data.proofs.event.name_row.Goals as goal
 
-pub returns-in-err-row : goal.returns-in-err-row
+pub returns-in_err-row : goal.returns-in_err-row
 unfolding name_placed
-returns-in-err-row c =
+returns-in_err-row c =
     let tells = told_as _ _ _ _ c.need.ensures.row c.need.ensures.words in
     let behind = placed_zeroed names_width (name_words (fresh (name_of_id c.args.id))) c.args.names.now _ _ refl c.need.ensures.words in
     search rules

@@ -9,7 +9,7 @@ pub explore-count-requires : goal.explore-count-requires
 explore-count-requires g c =
     let es = g.E.Edges.list c.args.edges.now in
     let same : length c.args.turns.now ≡ length c.fill.new.self = omega arith in
-    let all = subst (λ n. Linked es n (length es) c.link.new.turns c.link.new.links) same c.in-ok-link.ensures in
+    let all = subst (λ n. Linked es n (length es) c.link.new.turns c.link.new.links) same c.in_ok-link.ensures in
     record {
       star = linked_all all;
       room = omega arith;
@@ -23,5 +23,5 @@ pub returns : goal.returns
 returns g c =
     let es = g.E.Edges.list c.args.edges.now in
     let same : length c.args.turns.now ≡ length c.fill.new.self = omega arith in
-    let all = subst (λ n. Linked es n (length es) c.link.new.turns c.link.new.links) same c.in-ok-link.ensures in
+    let all = subst (λ n. Linked es n (length es) c.link.new.turns c.link.new.links) same c.in_ok-link.ensures in
     finished (linked_all all).inside c.explore-count.ensures.walk c.explore-count.ensures.seen c.lower.new.labels (omega arith) (λ v h. omega (arith, c.lower.ensures v (omega arith)))

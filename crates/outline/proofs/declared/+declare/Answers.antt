@@ -22,8 +22,8 @@ loop-number-preserved t c = (
   names_more (under_of c.args.under) (vec_items c.loop-number.found) (vec_items c.note.new.found) (vec_items c.declare.new.found)
       (head_of c.in-Some.number c.in-Some.record) (tree_of c.args.words.now c.in-Some.record.first)
       (tree_of c.args.words.now c.next.new.self.at) (tree_of c.args.words.now c.loop-number.number-iterator.at)
-      (turn t c).is c.in-ok-note.ensures
-      (c.in-ok-declare.ensures
+      (turn t c).is c.in_ok-note.ensures
+      (c.in_ok-declare.ensures
       ∙ ap (λ u. vec_items c.note.new.found ++ names_of (declaring u (tree_of c.args.words.now c.in-Some.record.first))) c.below.ensures)
       ∙ c.loop-number.invariant.3,
 )

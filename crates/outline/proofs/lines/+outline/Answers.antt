@@ -20,6 +20,6 @@ loop-number-preserved t c = (
       (vec_items c.loop-number.lines) (vec_items c.push.new.self) (vec_items c.outline.new.lines)
       (tree_of c.args.words.now c.in-Some.record.first)
       (tree_of c.args.words.now c.next.new.self.at) (tree_of c.args.words.now c.loop-number.number-iterator.at)
-      (turn t c).is c.in-ok-push.ensures.items c.in-ok-outline.ensures
+      (turn t c).is c.in_ok-push.ensures.items c.in_ok-outline.ensures
       ∙ c.loop-number.invariant.3,
 )

@@ -13,7 +13,7 @@ lift-requires-in-Yields c =
     let ch = c.requires.1 in
     let rest = c.requires.2 in
     let at = c.requires.3 in
-    (link h ch rest, after ch, to_value _ _ h ch rest at _ (c.next-of-value.ensures ch (c.first-of.ensures (link h ch rest) at.holds)))
+    (link h ch rest, after ch, to_value _ _ h ch rest at _ (c.next_of-value.ensures ch (c.first_of.ensures (link h ch rest) at.holds)))
 
 pub lift-requires-in-Unwraps : goal.lift-requires-in-Unwraps
 lift-requires-in-Unwraps c =
@@ -21,15 +21,15 @@ lift-requires-in-Unwraps c =
     let ch = c.requires.1 in
     let rest = c.requires.2 in
     let at = c.requires.3 in
-    (link h ch rest, wrapped_object ch, to_object _ _ h ch rest at _ (c.wrapped-object-object.ensures (link h ch rest) at.holds))
+    (link h ch rest, wrapped_object ch, to_object _ _ h ch rest at _ (c.wrapped_object-object.ensures (link h ch rest) at.holds))
 
 pub returns-in-Sweeps : goal.returns-in-Sweeps
 returns-in-Sweeps c = λ h ch rest at.
-    stays_at _ _ h ch rest at _ _ _ Sweeps h (swept ch) c.in-Sweeps.is refl refl c.next-slot-in-Sweeps.ensures (c.sweep-children.ensures h ch rest at)
+    stays_at _ _ h ch rest at _ _ _ Sweeps h (swept ch) c.in-Sweeps.is refl refl c.next_slot-in-Sweeps.ensures (c.sweep_children.ensures h ch rest at)
 
 pub returns-in-Empties : goal.returns-in-Empties
 returns-in-Empties c = λ h ch rest at.
-    stays_at _ _ h ch rest at _ _ _ Empties (become empty_statement h) end c.in-Empties.is refl refl c.next-slot-in-Empties.ensures (c.empty.ensures h ch rest at)
+    stays_at _ _ h ch rest at _ _ _ Empties (become empty_statement h) end c.in-Empties.is refl refl c.next_slot-in-Empties.ensures (c.empty.ensures h ch rest at)
 
 pub returns-in-Unlinks : goal.returns-in-Unlinks
 returns-in-Unlinks c = λ h ch rest at.
@@ -37,16 +37,16 @@ returns-in-Unlinks c = λ h ch rest at.
 
 pub returns-in-Restates : goal.returns-in-Restates
 returns-in-Restates c = λ h ch rest at.
-    stays_at _ _ h ch rest at _ _ _ Restates (become expression_statement h) (joined ch) c.in-Restates.is refl refl c.next-slot-in-Restates.ensures (c.restate.ensures h ch rest at)
+    stays_at _ _ h ch rest at _ _ _ Restates (become expression_statement h) (joined ch) c.in-Restates.is refl refl c.next_slot-in-Restates.ensures (c.restate.ensures h ch rest at)
 
 pub returns-in-Yields : goal.returns-in-Yields
 returns-in-Yields c = λ h ch rest at.
     gives_way _ _ h ch rest at _ _ _ Yields c.in-Yields.is
     (c.lift-in-Yields.ensures (link h ch rest) (after ch)
-    (to_value _ _ h ch rest at _ (c.next-of-value.ensures ch (c.first-of.ensures (link h ch rest) at.holds))))
+    (to_value _ _ h ch rest at _ (c.next_of-value.ensures ch (c.first_of.ensures (link h ch rest) at.holds))))
 
 pub returns-in-Unwraps : goal.returns-in-Unwraps
 returns-in-Unwraps c = λ h ch rest at.
     gives_way _ _ h ch rest at _ _ _ Unwraps c.in-Unwraps.is
     (c.lift-in-Unwraps.ensures (link h ch rest) (wrapped_object ch)
-    (to_object _ _ h ch rest at _ (c.wrapped-object-object.ensures (link h ch rest) at.holds)))
+    (to_object _ _ h ch rest at _ (c.wrapped_object-object.ensures (link h ch rest) at.holds)))

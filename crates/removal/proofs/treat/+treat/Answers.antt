@@ -9,13 +9,13 @@ use Rattle.removal.specs.Treating.{Nested}
 use Rattle.removal.proofs.Treats.{treats, whole_at, down, half_asked, standing, moved, passed_by, closed}
 use Rattle.removal.proofs.treat.+treat.Goals as goal
 
-pub enters-at-requires : goal.enters-at-requires
-enters-at-requires g t c =
+pub enters_at-requires : goal.enters_at-requires
+enters_at-requires g t c =
     let go = c.loop-words.invariant.1 c.requires.0 c.requires.1 in
     whole_at _ _ go.0 go.1.going.at
 
-pub has-children-had-requires : goal.has-children-had-requires
-has-children-had-requires g t c =
+pub has_children-had-requires : goal.has_children-had-requires
+has_children-had-requires g t c =
     let go = c.loop-words.invariant.1 c.requires.0 c.requires.1 in
     whole_at _ _ go.0 go.1.going.at
 
@@ -24,14 +24,14 @@ below-inside-requires g t c =
     let go = c.loop-words.invariant.1 c.requires.0 c.requires.1 in
     whole_at _ _ go.0 go.1.going.at
 
-pub overflow-sub-left : goal.overflow-sub-left
-overflow-sub-left g t c =
+pub overflow_sub-left : goal.overflow_sub-left
+overflow_sub-left g t c =
     let by = by_of (g.J.Judge.acts c.args.shaker.now.judge.now) c.args.shaker.now.basis in
     let p = place_of c.args.place in
     let ne = c.loop-words-test.true in
     let go = c.loop-words.invariant.1 c.requires.0 c.requires.1 in
     let at = go.1.going.at in
-    let d = down by p _ _ _ ne _ go.0 c.first-slot.ensures at go.1.deep in
+    let d = down by p _ _ _ ne _ go.0 c.first_slot.ensures at go.1.deep in
     d.0
 
 pub treat-below-requires : goal.treat-below-requires
@@ -41,7 +41,7 @@ treat-below-requires g t c κs within =
     let ne = c.loop-words-test.true in
     let go = c.loop-words.invariant.1 c.requires.0 c.requires.1 in
     let at = go.1.going.at in
-    let d = down by p _ _ _ ne _ go.0 c.first-slot.ensures at go.1.deep in
+    let d = down by p _ _ _ ne _ go.0 c.first_slot.ensures at go.1.deep in
     (omega (arith, c.decreases, d.0), (within, (below go.0, d.1)))
 
 pub verdict-verdict-requires : goal.verdict-verdict-requires
@@ -51,9 +51,9 @@ verdict-verdict-requires g t c =
     let ne = c.loop-words-test.true in
     let go = c.loop-words.invariant.1 c.requires.0 c.requires.1 in
     let at = go.1.going.at in
-    let d = down by p _ _ _ ne _ go.0 c.first-slot.ensures at go.1.deep in
+    let d = down by p _ _ _ ne _ go.0 c.first_slot.ensures at go.1.deep in
     let r = c.treat-below.ensures.made (below go.0) d.1 in
-    let asked = half_asked by p _ _ _ ne _ _ _ go.0 c.first-slot.ensures c.below-inside.ensures at go.1.deep r in
+    let asked = half_asked by p _ _ _ ne _ _ _ go.0 c.first_slot.ensures c.below-inside.ensures at go.1.deep r in
     record { whole = asked.0; deep = asked.1 }
 
 pub perform-at-requires : goal.perform-at-requires
@@ -63,40 +63,40 @@ perform-at-requires g t c =
     let ne = c.loop-words-test.true in
     let go = c.loop-words.invariant.1 c.requires.0 c.requires.1 in
     let at = go.1.going.at in
-    let d = down by p _ _ _ ne _ go.0 c.first-slot.ensures at go.1.deep in
+    let d = down by p _ _ _ ne _ go.0 c.first_slot.ensures at go.1.deep in
     let r = c.treat-below.ensures.made (below go.0) d.1 in
-    standing by p _ _ c.args.left ne _ _ _ go.0 c.first-slot.ensures c.below-inside.ensures at r
+    standing by p _ _ c.args.left ne _ _ _ go.0 c.first_slot.ensures c.below-inside.ensures at r
 
-pub loop-words-smaller-then-enters-at : goal.loop-words-smaller-then-enters-at
-loop-words-smaller-then-enters-at g t c =
+pub loop-words-smaller-then-enters_at : goal.loop-words-smaller-then-enters_at
+loop-words-smaller-then-enters_at g t c =
     let by = by_of (g.J.Judge.acts c.args.shaker.now.judge.now) c.args.shaker.now.basis in
     let p = place_of c.args.place in
     let ne = c.loop-words-test.true in
     let go = c.loop-words.invariant.1 c.requires.0 c.requires.1 in
     let at = go.1.going.at in
-    let d = down by p _ _ _ ne _ go.0 c.first-slot.ensures at go.1.deep in
+    let d = down by p _ _ _ ne _ go.0 c.first_slot.ensures at go.1.deep in
     let r = c.treat-below.ensures.made (below go.0) d.1 in
-    (moved by p _ _ c.requires.0 _ _ _ _ ne _ _ _ _ _ _ _ _ _ go.0 c.first-slot.ensures c.if-enters-at.ensures c.below-inside.ensures c.has-children-had.ensures
+    (moved by p _ _ c.requires.0 _ _ _ _ ne _ _ _ _ _ _ _ _ _ go.0 c.first_slot.ensures c.if-enters_at.ensures c.below-inside.ensures c.has_children-had.ensures
     r (c.treat-below.ensures.changed (below go.0) d.1) c.verdict-verdict.ensures c.perform-at.ensures c.removes.ensures go.1).1
 
-pub loop-words-preserved-then-enters-at : goal.loop-words-preserved-then-enters-at
-loop-words-preserved-then-enters-at g t c =
+pub loop-words-preserved-then-enters_at : goal.loop-words-preserved-then-enters_at
+loop-words-preserved-then-enters_at g t c =
     let by = by_of (g.J.Judge.acts c.args.shaker.now.judge.now) c.args.shaker.now.basis in
     let p = place_of c.args.place in
     let ne = c.loop-words-test.true in (
       (
           let go = c.loop-words.invariant.1 c.requires.0 c.requires.1 in
           let at = go.1.going.at in
-          let d = down by p _ _ _ ne _ go.0 c.first-slot.ensures at go.1.deep in
+          let d = down by p _ _ _ ne _ go.0 c.first_slot.ensures at go.1.deep in
           let r = c.treat-below.ensures.made (below go.0) d.1 in
-          (moved by p _ _ c.requires.0 _ _ _ _ ne _ _ _ _ _ _ _ _ _ go.0 c.first-slot.ensures c.if-enters-at.ensures c.below-inside.ensures c.has-children-had.ensures
+          (moved by p _ _ c.requires.0 _ _ _ _ ne _ _ _ _ _ _ _ _ _ go.0 c.first_slot.ensures c.if-enters_at.ensures c.below-inside.ensures c.has_children-had.ensures
           r (c.treat-below.ensures.changed (below go.0) d.1) c.verdict-verdict.ensures c.perform-at.ensures c.removes.ensures go.1).0.1.going.at.room),
       λ ch tr. (
           let go = c.loop-words.invariant.1 ch tr in
           let at = go.1.going.at in
-          let d = down by p _ _ _ ne _ go.0 c.first-slot.ensures at go.1.deep in
+          let d = down by p _ _ _ ne _ go.0 c.first_slot.ensures at go.1.deep in
           let r = c.treat-below.ensures.made (below go.0) d.1 in
-          (moved by p _ _ ch _ _ _ _ ne _ _ _ _ _ _ _ _ _ go.0 c.first-slot.ensures c.if-enters-at.ensures c.below-inside.ensures c.has-children-had.ensures
+          (moved by p _ _ ch _ _ _ _ ne _ _ _ _ _ _ _ _ _ go.0 c.first_slot.ensures c.if-enters_at.ensures c.below-inside.ensures c.has_children-had.ensures
           r (c.treat-below.ensures.changed (below go.0) d.1) c.verdict-verdict.ensures c.perform-at.ensures c.removes.ensures go.1).0),
     )
 
@@ -107,7 +107,7 @@ loop-words-smaller g t c =
     let ne = c.loop-words-test.true in
     let go = c.loop-words.invariant.1 c.requires.0 c.requires.1 in
     let at = go.1.going.at in
-    (passed_by by p _ _ c.requires.0 c.loop-words.words _ _ _ ne _ go.0 c.next-slot-at.ensures c.if-enters-at.ensures go.1).1
+    (passed_by by p _ _ c.requires.0 c.loop-words.words _ _ _ ne _ go.0 c.next_slot-at.ensures c.if-enters_at.ensures go.1).1
 
 pub loop-words-preserved : goal.loop-words-preserved
 loop-words-preserved g t c =
@@ -117,11 +117,11 @@ loop-words-preserved g t c =
       (
           let go = c.loop-words.invariant.1 c.requires.0 c.requires.1 in
           let at = go.1.going.at in
-          (passed_by by p _ _ c.requires.0 c.loop-words.words _ _ _ ne _ go.0 c.next-slot-at.ensures c.if-enters-at.ensures go.1).0.1.going.at.room),
+          (passed_by by p _ _ c.requires.0 c.loop-words.words _ _ _ ne _ go.0 c.next_slot-at.ensures c.if-enters_at.ensures go.1).0.1.going.at.room),
       λ ch tr. (
           let go = c.loop-words.invariant.1 ch tr in
           let at = go.1.going.at in
-          (passed_by by p _ _ ch c.loop-words.words _ _ _ ne _ go.0 c.next-slot-at.ensures c.if-enters-at.ensures go.1).0),
+          (passed_by by p _ _ ch c.loop-words.words _ _ _ ne _ go.0 c.next_slot-at.ensures c.if-enters_at.ensures go.1).0),
     )
 
 pub returns : goal.returns

@@ -3,4 +3,4 @@ use Rattle.rings.proofs.Joining.{joins_length}
 use Rattle.rings.proofs.edge_rows.edge_count.Goals as goal
 
 pub returns : goal.returns
-returns c = c.row-count.ensures.row ∙ sym (joins_length c.args.edges.now)
+returns c = c.row_count.ensures.row ∙ sym (joins_length c.args.edges.now)

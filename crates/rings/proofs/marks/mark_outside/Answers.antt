@@ -10,10 +10,10 @@ loop-k-preserved c =
     let labels = c.args.labels.now in
     let k = c.loop-k.k in
     let marks = c.loop-k.marks in
-    let ends = c.edge-ends-source.result in
+    let ends = c.edge_ends-source.result in
     elim c.if-labels-source.branch [
       | then-labels-source w ↦ subst (Outside edges labels (k + 1)) (sym w.marks-is)
-          (outside_next edges labels marks k ends c.edge-ends-source.ensures (omega arith) (omega (arith, c.requires.inside.targets k (omega arith), c.fill.ensures.len)) w.if-labels-source.true c.loop-k.invariant)
+          (outside_next edges labels marks k ends c.edge_ends-source.ensures (omega arith) (omega (arith, c.requires.inside.targets k (omega arith), c.fill.ensures.len)) w.if-labels-source.true c.loop-k.invariant)
       | else-labels-source w ↦ subst (Outside edges labels (k + 1)) (sym w.marks-is)
-          (outside_stay edges labels marks k ends c.edge-ends-source.ensures w.if-labels-source.false c.loop-k.invariant)
+          (outside_stay edges labels marks k ends c.edge_ends-source.ensures w.if-labels-source.false c.loop-k.invariant)
     ]

@@ -28,8 +28,8 @@ cycles-preserved-then-nexts-first-eq0 c =
     (quiet_single (entered_at names) labels marks cycle link (omega arith) first
     (subst (Latest labels (get_or labels (link - 1) 0) (link - 1)) c.if-nexts-first-eq0.true next))
 
-pub cycles-preserved-then-is-entry : goal.cycles-preserved-then-is-entry
-cycles-preserved-then-is-entry c =
+pub cycles-preserved-then-is_entry : goal.cycles-preserved-then-is_entry
+cycles-preserved-then-is_entry c =
     let names = c.args.names.now in
     let labels = c.args.labels.now in
     let marks = c.args.marks.now in
@@ -37,7 +37,7 @@ cycles-preserved-then-is-entry c =
     let low = c.loop-link.invariant.0 in
     ruled_more (entered_at names) labels marks c.cycles.closed c.cycles.cycle 0 (omega arith) c.cycles.invariant
     (λ q. both_ways (entered_at names (link - 1)) (q.calm (link - 1) (omega arith) (c.loop-link.invariant.1 (link - 1) (omega arith))).0
-    (sym c.is-entry.ensures.row ∙ c.if-is-entry.true))
+    (sym c.is_entry.ensures.row ∙ c.if-is_entry.true))
 
 pub cycles-preserved-then-marks-node-ne0 : goal.cycles-preserved-then-marks-node-ne0
 cycles-preserved-then-marks-node-ne0 c =

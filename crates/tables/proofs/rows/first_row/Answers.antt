@@ -11,6 +11,6 @@ returns-then-left-width c = rows_none c.args.width c.args.left.now c.requires (e
 
 pub returns : goal.returns
 returns c = (
-  rows_split c.args.width c.args.left.now _ _ c.requires c.if-left-width.false c.if-left-eq0.false c.split-at.ensures.front c.split-at.ensures.back,
-  c.split-at.ensures.front-len,
+  rows_split c.args.width c.args.left.now _ _ c.requires c.if-left-width.false c.if-left-eq0.false c.split_at.ensures.front c.split_at.ensures.back,
+  c.split_at.ensures.front-len,
 )

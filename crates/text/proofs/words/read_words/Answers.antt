@@ -8,24 +8,24 @@ use Rattle.text.proofs.words.read_words.Goals as goal
 pub loop-rest-init : goal.loop-rest-init
 loop-rest-init g c = rw c.new-read.ensures.items (sofar_none g.T.FromWord.meaning c.args.line.now)
 
-pub returns-in-err-from-word : goal.returns-in-err-from-word
-returns-in-err-from-word g c =
+pub returns-in_err-from_word : goal.returns-in_err-from_word
+returns-in_err-from_word g c =
     let some : 0 < length c.loop-rest.rest.now = omega (arith, false-eqb _ 0 c.loop-rest-test.ensures) in
     handed_on (Gives (each g.T.FromWord.meaning (words c.args.line.now)) vec_items)
-    c.from-residual.result c.in-err-from-word.field-0.0 c.from-residual.ensures.1
+    c.from-residual.result c.in_err-from_word.field-0.0 c.from-residual.ensures.1
     (inr (sofar_stops g.T.FromWord.meaning c.args.line.now c.loop-rest.rest.now c.cut.result.1.now c.cut.result.0.now
-    (vec_items c.loop-rest.read) c.in-err-from-word.field-0.0
-    (false-eqb (length c.cut.result.0.now) 0 c.if-not-is-empty.ensures) (c.cut.ensures.splits some)
-    c.in-err-from-word.ensures c.loop-rest.invariant))
+    (vec_items c.loop-rest.read) c.in_err-from_word.field-0.0
+    (false-eqb (length c.cut.result.0.now) 0 c.if-not-is_empty.ensures) (c.cut.ensures.splits some)
+    c.in_err-from_word.ensures c.loop-rest.invariant))
 
-pub loop-rest-preserved-in-ok-push : goal.loop-rest-preserved-in-ok-push
-loop-rest-preserved-in-ok-push g c =
+pub loop-rest-preserved-in_ok-push : goal.loop-rest-preserved-in_ok-push
+loop-rest-preserved-in_ok-push g c =
     let some : 0 < length c.loop-rest.rest.now = omega (arith, false-eqb _ 0 c.loop-rest-test.ensures) in
-    rw c.in-ok-push.ensures.items
+    rw c.in_ok-push.ensures.items
     (sofar_more g.T.FromWord.meaning c.args.line.now c.loop-rest.rest.now c.cut.result.1.now c.cut.result.0.now
-    (vec_items c.loop-rest.read) c.in-ok-from-word.field-0
-    (false-eqb (length c.cut.result.0.now) 0 c.if-not-is-empty.ensures) (c.cut.ensures.splits some)
-    c.in-ok-from-word.ensures c.loop-rest.invariant)
+    (vec_items c.loop-rest.read) c.in_ok-from_word.field-0
+    (false-eqb (length c.cut.result.0.now) 0 c.if-not-is_empty.ensures) (c.cut.ensures.splits some)
+    c.in_ok-from_word.ensures c.loop-rest.invariant)
 
 pub returns : goal.returns
 returns g c =

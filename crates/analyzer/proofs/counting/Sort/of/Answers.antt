@@ -6,13 +6,13 @@ pub returns-then-is-2 : goal.returns-then-is-2
 unfolding sort_of
 returns-then-is-2 c = search rules
 
-pub returns-then-is-class-member : goal.returns-then-is-class-member
+pub returns-then-is_class_member : goal.returns-then-is_class_member
 unfolding sort_of
-returns-then-is-class-member c = search rules
+returns-then-is_class_member c = search rules
 
-pub returns-then-is-expression : goal.returns-then-is-expression
+pub returns-then-is_expression : goal.returns-then-is_expression
 unfolding sort_of
-returns-then-is-expression c = search rules
+returns-then-is_expression c = search rules
 
 pub returns-then-is-4 : goal.returns-then-is-4
 unfolding sort_of

@@ -5,8 +5,8 @@ use Rattle.rules.specs.Judges.{some_acts}
 use Rattle.records.specs.Cursor.{Along}
 use Rattle.judge.proofs.plain.Plain.+some_acts.Given as goal
 
-abbrev pub decreases-some-acts : goal.decreases-some-acts
-decreases-some-acts l = l.left
+abbrev pub decreases-some_acts : goal.decreases-some_acts
+decreases-some_acts l = l.left
 
 abbrev pub invariant-loop-node : goal.invariant-loop-node
 invariant-loop-node l =
