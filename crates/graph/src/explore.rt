@@ -88,11 +88,11 @@ fn step<E: Edges>(
     places: &mut [u32],
     stand: Stand,
 ) -> Stand
-    requires star { Star (list edges.now) (length places.old) links.now }
-    requires room { length (list edges.now) ≤ length links.now }
-    requires walk { Search (list edges.now) (length places.old) turns.old stack.old back.old borders.old places.old stand.top stand.at stand.depth stand.count }
+    requires star { Star (E.list edges.now) (length places.old) links.now }
+    requires room { length (E.list edges.now) ≤ length links.now }
+    requires walk { Search (E.list edges.now) (length places.old) turns.old stack.old back.old borders.old places.old stand.top stand.at stand.depth stand.count }
     requires some { 0 < stand.depth }
-    ensures walk { Search (list edges.now) (length places.old) turns.new stack.new back.new borders.new places.new result.top result.at result.depth result.count }
+    ensures walk { Search (E.list edges.now) (length places.old) turns.new stack.new back.new borders.new places.new result.top result.at result.depth result.count }
     ensures seen { Seen (length places.old) places.old places.new }
     ensures falls { left (length places.old) turns.new result.at result.depth < left (length places.old) turns.old stand.at stand.depth }
 {
@@ -144,12 +144,12 @@ fn visit<E: Edges>(
     root: u32,
     count: u32,
 ) -> u32
-    requires star { Star (list edges.now) (length places.old) links.now }
-    requires room { length (list edges.now) ≤ length links.now }
-    requires walk { Search (list edges.now) (length places.old) turns.old stack.old back.old borders.old places.old 0 0 0 count }
+    requires star { Star (E.list edges.now) (length places.old) links.now }
+    requires room { length (E.list edges.now) ≤ length links.now }
+    requires walk { Search (E.list edges.now) (length places.old) turns.old stack.old back.old borders.old places.old 0 0 0 count }
     requires known { root < length places.old }
     requires unseen { slice_index places.old root ≡ 0 }
-    ensures walk { Search (list edges.now) (length places.old) turns.new stack.new back.new borders.new places.new 0 0 0 result }
+    ensures walk { Search (E.list edges.now) (length places.old) turns.new stack.new back.new borders.new places.new 0 0 0 result }
     ensures root { 0 < slice_index places.new root }
     ensures seen { Seen (length places.old) places.old places.new }
 {
@@ -176,10 +176,10 @@ pub fn explore<E: Edges>(
     borders: &mut [u32],
     places: &mut [u32],
 ) -> u32
-    requires star { Star (list edges.now) (length places.old) links.now }
-    requires room { length (list edges.now) ≤ length links.now }
-    requires walk { Search (list edges.now) (length places.old) turns.old stack.old back.old borders.old places.old 0 0 0 0 }
-    ensures walk { Search (list edges.now) (length places.old) turns.new stack.new back.new borders.new places.new 0 0 0 result }
+    requires star { Star (E.list edges.now) (length places.old) links.now }
+    requires room { length (E.list edges.now) ≤ length links.now }
+    requires walk { Search (E.list edges.now) (length places.old) turns.old stack.old back.old borders.old places.old 0 0 0 0 }
+    ensures walk { Search (E.list edges.now) (length places.old) turns.new stack.new back.new borders.new places.new 0 0 0 result }
     ensures seen { (v : ℕ) → v < length places.old → 0 < slice_index places.new v }
 {
     let mut count = 0;

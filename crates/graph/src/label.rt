@@ -27,13 +27,13 @@ pub fn label<E: Edges>(
     labels: &mut [u32],
 ) -> Result<u32, usize>
     requires few { length labels.old < 2 ^ 31 }
-    requires few_edges { length (list edges.now) < 2 ^ 32 }
+    requires few_edges { length (E.list edges.now) < 2 ^ 32 }
     requires turns_long { length turns.old ≡ length labels.old }
     requires stack_long { length stack.old ≡ length labels.old }
     requires back_long { length back.old ≡ length labels.old }
     requires borders_long { length borders.old ≡ length labels.old }
-    requires links_long { length (list edges.now) ≤ length links.old }
-    ensures { MatchResult result (λ count. Components (list edges.now) labels.new count) (λ edge. Stray (list edges.now) (length labels.old) edge × (labels.new ≡ labels.old)) }
+    requires links_long { length (E.list edges.now) ≤ length links.old }
+    ensures { MatchResult result (λ count. Components (E.list edges.now) labels.new count) (λ edge. Stray (E.list edges.now) (length labels.old) edge × (labels.new ≡ labels.old)) }
 {
     link(edges, turns, links)?;
     labels.fill(0);

@@ -33,7 +33,7 @@ pub fn components<E: Edges>(
     work: &mut [u32],
     labels: &mut [u32],
 ) -> Result<u32, GraphFault>
-    ensures { MatchResult result (λ count. Components (list edges.now) labels.new count) (λ fault. Refused (list edges.now) (length labels.old) (length work.old) fault × (labels.new ≡ labels.old)) }
+    ensures { MatchResult result (λ count. Components (E.list edges.now) labels.new count) (λ fault. Refused (E.list edges.now) (length labels.old) (length work.old) fault × (labels.new ≡ labels.old)) }
 {
     let nodes = labels.len();
     let count = edges.len();

@@ -8,9 +8,9 @@ use crate::edges::Edges;
 /// edge to the one before it. A link is one more than the edge's number, and 0 where there is none.
 /// The answer is an edge that names a node past the last one, if there is one.
 pub fn link<E: Edges>(edges: &E, turns: &mut [u32], links: &mut [u32]) -> Result<(), usize>
-    requires room { length (list edges.now) ≤ length links.old }
-    requires few { length (list edges.now) < 2 ^ 32 }
-    ensures { MatchResult result (λ _. Linked (list edges.now) (length turns.old) (length (list edges.now)) turns.new links.new) (λ k. Stray (list edges.now) (length turns.old) k) }
+    requires room { length (E.list edges.now) ≤ length links.old }
+    requires few { length (E.list edges.now) < 2 ^ 32 }
+    ensures { MatchResult result (λ _. Linked (E.list edges.now) (length turns.old) (length (E.list edges.now)) turns.new links.new) (λ k. Stray (E.list edges.now) (length turns.old) k) }
 {
     turns.fill(0);
     for k in 0..edges.len() {

@@ -8,7 +8,7 @@
 --   values_formed, joined_formed   the values are expressions, and they join to one
 --   kept_valued, restated_formed   one that stays although its name can go has a value; what a Var becomes has its child
 use Rattle.std.proofs.Common.{◌≡◌, Bool, true, false, not, eqb, List, [], ◌∷◌, sym, refl, ◌∙◌, subst, ⊎_elim, arith}
-use mathlib.Core.Bool.{and-false, or_false}
+use mathlib.Core.Bool.{and-false, or-false}
 use Rattle.std.proofs.lemmas.Bool.{cond_both, both_ways, cases_Bool, and_parts, and_from, eq-eqb, eqb-true, not_from_false}
 use Rattle.rules.specs.Tree.{Head, Chain, ◌is◌, flagged, is_end, after, alone, append}
 use Rattle.rules.specs.Tree.Chain.{end, link}
@@ -129,7 +129,7 @@ acts_filled by (link h children rest) e = refl
 -- in a Var that is not exported, a Declarator's name can go by its own place as by the Var's
 name_inside : (by : By) (p : Place) (h : Head) (parts : Chain) → h.kind ≡ var_declaration →
     name_goes by (place_inside p h) (place_inside p h).in_var parts ≡ name_goes by p (flagged h) parts
-name_inside by p h parts k = rw (k, or_false p.in_fn, or_false p.in_block_stmt)
+name_inside by p h parts k = rw (k, or-false p.in_fn, or-false p.in_block_stmt)
 
 inward_inside : (p : Place) (h : Head) → h.kind ≡ var_declaration → p.in_export ≡ false → (place_inside p h).in_export ≡ false
 inward_inside p h k x = rw (k, x)

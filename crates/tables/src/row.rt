@@ -13,7 +13,7 @@ pub trait Row {
 
     ghost wide: { ℕ };
 
-    ghost keyOf: { List ℕ → Self.Key };
+    ghost key_of: { List ℕ → Self.Key };
 
     ghost fresh: { Self.Key → List ℕ };
 

@@ -1,4 +1,5 @@
 ghost use Rattle.std.specs.Prelude.{◌≡◌, ◌/◌, ◌<◌, ◌≤◌, [], ◌∷◌, length, MatchOption};
+ghost use Rattle.std.specs.Iterator.{at_most};
 ghost use Rattle.tables.specs.Living.{rows, used};
 ghost use Rattle.tables.specs.Walking.{rows_left, row_width};
 
@@ -14,11 +15,11 @@ pub struct Rows<'t> {
 impl<'t> Rows<'t> {
     /// Those of the table that these words are.
     pub fn of<R: Row>(table: &'t [u32]) -> Rows<'t>
-        ensures left { rows_left result ≡ rows wide table.now }
-        ensures width { row_width result ≡ wide }
+        ensures left { rows_left result ≡ rows R.wide table.now }
+        ensures width { row_width result ≡ R.wide }
         ensures some { 0 < row_width result }
-        ensures few { used wide table.now ≤ length table.now }
-        ensures whole { used wide table.now ≤ length table.now / wide }
+        ensures few { used R.wide table.now ≤ length table.now }
+        ensures whole { used R.wide table.now ≤ length table.now / R.wide }
     {
         Rows {
             left: table,
@@ -34,9 +35,7 @@ impl<'t> Iterator for Rows<'t> {
 
     ghost next_gives = { λ s r t. (row_width t ≡ row_width s) × MatchOption r (rows_left s ≡ []) (λ x. (rows_left s ≡ x.now ∷ rows_left t) × (length x.now ≡ row_width s)) };
 
-    ghost ends = { λ s. 0 < row_width s };
-
-    ghost remaining = { λ s. length (rows_left s) };
+    ghost remaining = { λ s. at_most (length (rows_left s)) };
 
     fn next(&mut self) -> Option<&'t [u32]> {
         let (row, left) = first_row(self.left, self.width)?;

@@ -11,8 +11,8 @@ use crate::rows::Rows;
 
 /// The number of the first row with the key.
 pub fn find<R: Row>(table: &[u32], key: &R::Key) -> Option<usize>
-    ensures row { result ≡ first_row (keyed R.Key.LawfulEq.same key_of key.now) (rows wide table.now) }
-    ensures there { IfSome result (λ n. (there wide table.now n ≡ true) × (n ≤ length table.now)) }
+    ensures row { result ≡ first_row (keyed R.Key.LawfulEq.same R.key_of key.now) (rows R.wide table.now) }
+    ensures there { IfSome result (λ n. (there R.wide table.now n ≡ true) × (n ≤ length table.now)) }
 {
     let mut number = 0;
     for row in Rows::of::<R>(table) {
@@ -26,8 +26,8 @@ pub fn find<R: Row>(table: &[u32], key: &R::Key) -> Option<usize>
 
 /// How many rows the table has.
 pub fn row_count<R: Row>(table: &[u32]) -> usize
-    ensures row { result ≡ used wide table.now }
-    ensures few { (result ≤ length table.now / wide) × (result ≤ length table.now) }
+    ensures row { result ≡ used R.wide table.now }
+    ensures few { (result ≤ length table.now / R.wide) × (result ≤ length table.now) }
 {
     let mut count = 0;
     for _ in Rows::of::<R>(table) {
@@ -38,14 +38,14 @@ pub fn row_count<R: Row>(table: &[u32]) -> usize
 
 /// Whether the table has a row.
 pub fn has_row<R: Row>(table: &[u32]) -> bool
-    ensures { result ≡ nat_lt 0 (used wide table.now) }
+    ensures { result ≡ nat_lt 0 (used R.wide table.now) }
 {
     Rows::of::<R>(table).next().is_some()
 }
 
 /// Where the row of this number begins, if it is one of the whole rows.
 pub fn row_start<R: Row>(table: &[u32], number: usize) -> Option<usize>
-    ensures { MatchOption result (there wide table.now number ≡ false) (λ s. (there wide table.now number ≡ true) × (s ≡ start_of wide number) × (s + wide ≤ length table.now)) }
+    ensures { MatchOption result (there R.wide table.now number ≡ false) (λ s. (there R.wide table.now number ≡ true) × (s ≡ start_of R.wide number) × (s + R.wide ≤ length table.now)) }
 {
     let width = R::stride();
     if number == 0 || number > table.len() / width {
@@ -63,7 +63,7 @@ struct FreeRow {
 
 /// The first free row, if a whole one is free.
 fn free_row<R: Row>(table: &[u32]) -> Option<FreeRow>
-    ensures { MatchOption result (free wide table.now ≡ false) (λ f. Free wide table.now f.number f.start) }
+    ensures { MatchOption result (free R.wide table.now ≡ false) (λ f. Free R.wide table.now f.number f.start) }
 {
     let number = row_count::<R>(table) + 1;
     let start = row_start::<R>(table, number)?;
@@ -72,14 +72,14 @@ fn free_row<R: Row>(table: &[u32]) -> Option<FreeRow>
 
 /// Puts a new row with the key behind the last row, and gives its number. `at` is the record that needs it.
 pub fn insert<R: Row>(table: &mut [u32], key: R::Key, at: u32) -> Result<usize, TableFault>
-    ensures words { table.new ≡ added wide (fresh key) table.old }
-    ensures row { IfOk result (λ n. (n ≡ used wide table.old + 1) × (free wide table.old ≡ true)) }
-    ensures there { IfOk result (λ n. (there wide table.new n ≡ true) × (n ≤ length table.new)) }
-    ensures refused { IfErr result (λ e. (e ≡ full at) × (free wide table.old ≡ false)) }
-    ensures alive { ComesAlive wide (fresh key) table.old table.new }
-    ensures found { FoundThere (keyed R.Key.LawfulEq.same key_of key) wide (fresh key) table.old table.new }
-    ensures others { OthersStay R.Key.LawfulEq.same key_of key wide table.old table.new }
-    ensures held { HoldsMore wide (fresh key) table.old table.new }
+    ensures words { table.new ≡ added R.wide (R.fresh key) table.old }
+    ensures row { IfOk result (λ n. (n ≡ used R.wide table.old + 1) × (free R.wide table.old ≡ true)) }
+    ensures there { IfOk result (λ n. (there R.wide table.new n ≡ true) × (n ≤ length table.new)) }
+    ensures refused { IfErr result (λ e. (e ≡ R.full at) × (free R.wide table.old ≡ false)) }
+    ensures alive { ComesAlive R.wide (R.fresh key) table.old table.new }
+    ensures found { FoundThere (keyed R.Key.LawfulEq.same R.key_of key) R.wide (R.fresh key) table.old table.new }
+    ensures others { OthersStay R.Key.LawfulEq.same R.key_of key R.wide table.old table.new }
+    ensures held { HoldsMore R.wide (R.fresh key) table.old table.new }
 {
     let Some(FreeRow { number, start }) = free_row::<R>(table) else {
         return Err(R::fault(at));
@@ -90,9 +90,9 @@ pub fn insert<R: Row>(table: &mut [u32], key: R::Key, at: u32) -> Result<usize, 
 
 /// The number of the row with the key, which is put behind the last row if it is not there. `at` is the record that needs it.
 pub fn need<R: Row>(table: &mut [u32], key: R::Key, at: u32) -> Result<usize, TableFault>
-    ensures row { result ≡ answered wide (full at) table.old (first_row (keyed R.Key.LawfulEq.same key_of key) (rows wide table.old)) }
-    ensures there { IfOk result (λ n. (there wide table.new n ≡ true) × (n ≤ length table.new)) }
-    ensures words { table.new ≡ placed wide (fresh key) table.old (first_row (keyed R.Key.LawfulEq.same key_of key) (rows wide table.old)) }
+    ensures row { result ≡ answered R.wide (R.full at) table.old (first_row (keyed R.Key.LawfulEq.same R.key_of key) (rows R.wide table.old)) }
+    ensures there { IfOk result (λ n. (there R.wide table.new n ≡ true) × (n ≤ length table.new)) }
+    ensures words { table.new ≡ placed R.wide (R.fresh key) table.old (first_row (keyed R.Key.LawfulEq.same R.key_of key) (rows R.wide table.old)) }
 {
     match find::<R>(table, &key) {
         Some(number) => Ok(number),
@@ -102,8 +102,8 @@ pub fn need<R: Row>(table: &mut [u32], key: R::Key, at: u32) -> Result<usize, Ta
 
 /// Makes every whole row 0. The words past the last whole row stay.
 pub fn zero_rows<R: Row>(table: &mut [u32])
-    ensures words { table.new ≡ zeroed wide table.old }
-    ensures held { Holds wide (λ r. r) table.old [] table.new }
+    ensures words { table.new ≡ zeroed R.wide table.old }
+    ensures held { Holds R.wide (λ r. r) table.old [] table.new }
 {
     let width = R::stride();
     let whole = table.len() / width * width;

@@ -7,7 +7,7 @@ use Rattle.checker.proofs.check.Goals as goal
 
 pub returns-in_err-count : goal.returns-in_err-count
 returns-in_err-count c =
-    let p = err_from_is_err_and c.from-residual.result c.from-residual.ensures.1 in
+    let p = err_from_is_err_and c.from_residual.result c.from_residual.ensures.1 in
     rw (p.1, p.2) (denied c.args.words.now (sym c.if-not-lengths_fit.ensures) (sym c.if-not-root_is_alone.ensures) (c.in_err-count.ensures.is [] (marks_none (most_tree_words / 6))))
 
 pub overflow_cast-result : goal.overflow_cast-result

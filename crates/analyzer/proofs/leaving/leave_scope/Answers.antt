@@ -18,7 +18,7 @@ returns-in_err-mark_declared c = search rules
 
 pub returns-in_err-mark_parameters : goal.returns-in_err-mark_parameters
 returns-in_err-mark_parameters c =
-    let fault = err_from_is_err_and c.from-residual-in_err-mark_parameters.result c.from-residual-in_err-mark_parameters.ensures.1 in
+    let fault = err_from_is_err_and c.from_residual-in_err-mark_parameters.result c.from_residual-in_err-mark_parameters.ensures.1 in
     record {
       marks = rw (fault.1, fault.2) (λ edges.
           leaves _ _ c.args.found _ (tables c.if-found.names edges) _

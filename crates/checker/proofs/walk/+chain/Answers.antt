@@ -11,12 +11,12 @@ loop-at-init t c = (omega arith, λ b m. begin _ _ _ _ _ _ _ m)
 
 pub returns-in_err-node : goal.returns-in_err-node
 returns-in_err-node t c =
-    let p = err_from_is_err_and c.from-residual.result c.from-residual.ensures.1 in
+    let p = err_from_is_err_and c.from_residual.result c.from_residual.ensures.1 in
     rw (p.1, p.2) (record { left = tt; is = λ b m. go_untaken {number = number c.in_err-node.field-0.0} {place = place c.in_err-node.field-0.0} (omega arith) (c.loop-at.invariant.1 b m) c.in_err-node.ensures })
 
 pub returns-in_err-count : goal.returns-in_err-count
 returns-in_err-count t c =
-    let p = err_from_is_err_and c.from-residual-in_err-count.result c.from-residual-in_err-count.ensures.1 in
+    let p = err_from_is_err_and c.from_residual-in_err-count.result c.from_residual-in_err-count.ensures.1 in
     rw (p.1, p.2) (record {
       left = tt;
       is = λ b m.
@@ -54,7 +54,7 @@ loop-at-preserved t c =
 
 pub returns-in_err-stop : goal.returns-in_err-stop
 returns-in_err-stop t c =
-    let p = err_from_is_err_and c.from-residual-in_err-stop.result c.from-residual-in_err-stop.ensures.1 in
+    let p = err_from_is_err_and c.from_residual-in_err-stop.result c.from_residual-in_err-stop.ensures.1 in
     let e = c.in_err-stop.ensures.1 in
     rw (p.1, p.2, e) (record { left = tt; is = λ b m. go_short (omega arith) c.in_err-stop.ensures.0 (c.loop-at.invariant.1 b m) })
 

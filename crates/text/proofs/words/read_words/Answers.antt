@@ -12,7 +12,7 @@ pub returns-in_err-from_word : goal.returns-in_err-from_word
 returns-in_err-from_word g c =
     let some : 0 < length c.loop-rest.rest.now = omega (arith, false-eqb _ 0 c.loop-rest-test.ensures) in
     handed_on (Gives (each g.T.FromWord.meaning (words c.args.line.now)) vec_items)
-    c.from-residual.result c.in_err-from_word.field-0.0 c.from-residual.ensures.1
+    c.from_residual.result c.in_err-from_word.field-0.0 c.from_residual.ensures.1
     (inr (sofar_stops g.T.FromWord.meaning c.args.line.now c.loop-rest.rest.now c.cut.result.1.now c.cut.result.0.now
     (vec_items c.loop-rest.read) c.in_err-from_word.field-0.0
     (false-eqb (length c.cut.result.0.now) 0 c.if-not-is_empty.ensures) (c.cut.ensures.splits some)

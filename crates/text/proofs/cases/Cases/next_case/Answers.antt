@@ -25,14 +25,14 @@ returns-in_err-read_case c =
     record {
       finds =
           handed_on (Finds (next_said (left_of c.args.self.now)) (option_map (λ v. (said_of v, left_of c.read_case.new.self))))
-          c.from-residual.result c.in_err-read_case.field-0.0 c.from-residual.ensures.1
+          c.from_residual.result c.in_err-read_case.field-0.0 c.from_residual.ensures.1
           (elim c.in_err-read_case.ensures [
             | inl memory ↦ inl memory
             | inr is ↦ inr (
                 case_there (left_of c.args.self.now) c.pass_over.new.self.rest.now c.pass_over.new.self.line c.pass_over.ensures some
                 ∙ ap (λ r. and_then r (λ found. Ok (Some found))) is)
           ]);
-      shorter = IfOk-from_err _ _ c.from-residual.ensures.0;
+      shorter = IfOk-from_err _ _ c.from_residual.ensures.0;
     }
 
 pub returns : goal.returns

@@ -11,7 +11,7 @@ use Rattle.text.proofs.cases.Cases.settings.Goals as goal
 pub returns-in_err-rest : goal.returns-in_err-rest
 returns-in_err-rest c =
     handed_on (Finds (read_line Set settings_of (left_of c.args.self.now)) (λ v. (v, left_of c.due.new.self)))
-    c.from-residual.result c.in_err-rest.field-0.0 c.from-residual.ensures.1
+    c.from_residual.result c.in_err-rest.field-0.0 c.from_residual.ensures.1
     (inr (line_missing Set settings_of (left_of c.args.self.now) c.in_err-rest.field-0.0 c.in_err-rest.ensures))
 
 pub returns : goal.returns

@@ -5,7 +5,7 @@ use Rattle.text.proofs.words.U32FromWord.from_word.Goals as goal
 
 pub returns-in_err-n : goal.returns-in_err-n
 returns-in_err-n c =
-    handed_on (λ r. r ≡ number c.args.word.now) c.from-residual.result c.in_err-n.field-0.0 c.from-residual.ensures.1
+    handed_on (λ r. r ≡ number c.args.word.now) c.from_residual.result c.in_err-n.field-0.0 c.from_residual.ensures.1
     (sym (c.loop-byte.invariant ∙ number_stops c.args.word.now c.loop-byte.byte-index c.loop-byte.n c.in_err-n.field-0.0
     c.loop-byte-test.true c.in_err-n.ensures))
 
