@@ -19,8 +19,8 @@ pub fn bound_names<S: NameSink>(
 ) -> Result<(), S::Fault>
     requires whole { Whole words.now first }
     requires deep { depth (tree_of words.now first) ≤ left }
-    ensures names { MatchResult result (λ _. each takes (bound (tree_of words.now first)) (held sink.old) ≡ fine (held sink.new)) (λ e. each takes (bound (tree_of words.now first)) (held sink.old) ≡ refused (number e) (place e)) }
-    ensures stays { fixed sink.new ≡ fixed sink.old }
+    ensures names { MatchResult result (λ _. each S.takes (bound (tree_of words.now first)) (S.held sink.old) ≡ fine (S.held sink.new)) (λ e. each S.takes (bound (tree_of words.now first)) (S.held sink.old) ≡ refused (S.number e) (S.place e)) }
+    ensures stays { S.fixed sink.new ≡ S.fixed sink.old }
 {
     walk(words, first, left, sink)
 }
@@ -29,8 +29,8 @@ pub fn bound_names<S: NameSink>(
 fn walk<S: NameSink>(words: &[u32], first: u32, left: u32, sink: &mut S) -> Result<(), S::Fault>
     requires whole { Whole words.now first }
     requires deep { depth (tree_of words.now first) ≤ left }
-    ensures walk { MatchResult result (λ _. walk_bound takes (tree_of words.now first) (held sink.old) ≡ fine (held sink.new)) (λ e. walk_bound takes (tree_of words.now first) (held sink.old) ≡ refused (number e) (place e)) }
-    ensures stays { fixed sink.new ≡ fixed sink.old }
+    ensures walk { MatchResult result (λ _. walk_bound S.takes (tree_of words.now first) (S.held sink.old) ≡ fine (S.held sink.new)) (λ e. walk_bound S.takes (tree_of words.now first) (S.held sink.old) ≡ refused (S.number e) (S.place e)) }
+    ensures stays { S.fixed sink.new ≡ S.fixed sink.old }
 {
     for (n, node) in Children::of(words, first) {
         if binds_name(node) {

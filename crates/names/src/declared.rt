@@ -28,8 +28,8 @@ pub fn declared_names<S: NameSink>(
 ) -> Result<(), S::Fault>
     requires whole { Whole words.now first }
     requires deep { depth (tree_of words.now first) ≤ left }
-    ensures names { MatchResult result (λ _. each takes (declared (tree_of words.now first)) (held sink.old) ≡ fine (held sink.new)) (λ e. each takes (declared (tree_of words.now first)) (held sink.old) ≡ refused (number e) (place e)) }
-    ensures stays { fixed sink.new ≡ fixed sink.old }
+    ensures names { MatchResult result (λ _. each S.takes (declared (tree_of words.now first)) (S.held sink.old) ≡ fine (S.held sink.new)) (λ e. each S.takes (declared (tree_of words.now first)) (S.held sink.old) ≡ refused (S.number e) (S.place e)) }
+    ensures stays { S.fixed sink.new ≡ S.fixed sink.old }
 {
     walk(words, first, left, Surrounding::none(), sink)
 }
@@ -43,8 +43,8 @@ pub fn declared_below<S: NameSink>(
 ) -> Result<(), S::Fault>
     requires whole { Whole words.now node.first }
     requires deep { depth (tree_of words.now node.first) ≤ left }
-    ensures names { MatchResult result (λ _. each takes (declared_below (head_of 0 node) (tree_of words.now node.first)) (held sink.old) ≡ fine (held sink.new)) (λ e. each takes (declared_below (head_of 0 node) (tree_of words.now node.first)) (held sink.old) ≡ refused (number e) (place e)) }
-    ensures stays { fixed sink.new ≡ fixed sink.old }
+    ensures names { MatchResult result (λ _. each S.takes (declared_below (head_of 0 node) (tree_of words.now node.first)) (S.held sink.old) ≡ fine (S.held sink.new)) (λ e. each S.takes (declared_below (head_of 0 node) (tree_of words.now node.first)) (S.held sink.old) ≡ refused (S.number e) (S.place e)) }
+    ensures stays { S.fixed sink.new ≡ S.fixed sink.old }
 {
     walk(
         words,
@@ -116,8 +116,8 @@ fn walk<S: NameSink>(
 ) -> Result<(), S::Fault>
     requires whole { Whole words.now first }
     requires deep { depth (tree_of words.now first) ≤ left }
-    ensures walk { MatchResult result (λ _. walk_declared takes (surrounded around) (tree_of words.now first) (held sink.old) ≡ fine (held sink.new)) (λ e. walk_declared takes (surrounded around) (tree_of words.now first) (held sink.old) ≡ refused (number e) (place e)) }
-    ensures stays { fixed sink.new ≡ fixed sink.old }
+    ensures walk { MatchResult result (λ _. walk_declared S.takes (surrounded around) (tree_of words.now first) (S.held sink.old) ≡ fine (S.held sink.new)) (λ e. walk_declared S.takes (surrounded around) (tree_of words.now first) (S.held sink.old) ≡ refused (S.number e) (S.place e)) }
+    ensures stays { S.fixed sink.new ≡ S.fixed sink.old }
 {
     for (n, node) in Children::of(words, first) {
         if around.declares(node) {

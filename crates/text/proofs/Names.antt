@@ -2,18 +2,11 @@
 -- definitions compute byte by byte.
 use Rattle.std.proofs.Common.{◌≡◌, ℕ, zero, suc, ◌<◌, ◌≤◌, Bool, true, false, cond, ◌&&◌, eqb, ltb, List, [], ◌∷◌, length, get_or, Ok, Err, IsAscii, Decides, sym, refl, ap, ◌∙◌, arith, rules, le-ltb, lt-ltb, eq-eqb}
 use Rattle.std.proofs.lemmas.Slice.Eq.{bytes_eq-Decides, slice_eq-Decides}
-use Rattle.std.specs.Cmp.Lexicographic.{Matches}
 use Rattle.std.specs.Str.{bytes_eq}
 use Rattle.text.specs.declared.fault.Problem.TheVariants.{NotText}
 use Rattle.text.specs.Split.{before}
-use Rattle.text.specs.Lines.{ascii, one_word, name_of_id}
+use Rattle.text.specs.Lines.{ascii, one_word, name_of}
 use Rattle.std.proofs.lemmas.Bool.Decides.{Decides-eqb}
-
--- a test that decides whether bytes are the same is that of the definitions
-pub tells_same : (xs ys zs : List ℕ) (r : Bool) → Matches (λ (a b : ℕ) (t : Bool). Decides t (a ≡ b)) xs ys r → ys ≡ zs → r ≡ bytes_eq xs zs
-tells_same xs ys zs r matches same =
-    let decides : Decides r (xs ≡ zs) = rw same at (slice_eq-Decides Decides-eqb xs ys r matches) in
-    search (rules, bytes_eq-Decides)
 
 -- one word, with no space around it
 pub one_word_so : (rest word : List ℕ) → word ≡ before 32 rest → (length word ≡ 0 → ⊥) → length word ≡ length rest → one_word rest ≡ true
@@ -32,9 +25,9 @@ not_ascii_so (b ∷ bs) zero large = rw (le-ltb b 128 large)
 not_ascii_so (b ∷ bs) (suc i) large = elim (ltb b 128) as (λ t. (t && ascii bs) ≡ false) [ true ↦ not_ascii_so bs i large | false ↦ refl ]
 
 -- a good name
-pub name_good : (rest : List ℕ) → one_word rest ≡ true → ascii rest ≡ true → name_of_id rest ≡ Ok rest
+pub name_good : (rest : List ℕ) → one_word rest ≡ true → ascii rest ≡ true → name_of rest ≡ Ok rest
 name_good rest one plain = rw (one, plain)
 
 -- one word that is not ASCII
-pub name_not_text : (rest : List ℕ) → one_word rest ≡ true → ascii rest ≡ false → name_of_id rest ≡ Err NotText
+pub name_not_text : (rest : List ℕ) → one_word rest ≡ true → ascii rest ≡ false → name_of rest ≡ Err NotText
 name_not_text rest one other = rw (one, other)

@@ -1,6 +1,6 @@
 -- What stands behind a line's keyword, as a value or the problem with it.
 --
---   name_of_id              a name: one word of ASCII
+--   name_of              a name: one word of ASCII
 --   bit, settings_of     settings: two bits, the judge's bit, the mark
 --   lengths_of           the lengths of the three tables
 --   call, calls_of       calls by their names
@@ -27,8 +27,8 @@ one_word [] = false
 one_word (b ∷ bs) = length (before 32 (b ∷ bs)) == length (b ∷ bs)
 
 -- a name: one word of ASCII
-abbrev pub name_of_id : List ℕ → Result (List ℕ) Problem
-name_of_id rest = cond (one_word rest) (cond (ascii rest) (Ok rest) (Err NotText)) (Err WrongCount)
+abbrev pub name_of : List ℕ → Result (List ℕ) Problem
+name_of rest = cond (one_word rest) (cond (ascii rest) (Ok rest) (Err NotText)) (Err WrongCount)
 
 -- a setting that is on or off
 abbrev pub bit : ℕ → Result Bool Problem

@@ -19,7 +19,7 @@ use Rattle.text.specs.declared.case.Call.{Call}
 use Rattle.text.specs.Split.{before, behind, split, and_then}
 use Rattle.text.specs.Numbers.{numbers}
 use Rattle.text.specs.Keywords.{spelling, known}
-use Rattle.text.specs.Lines.{name_of_id, settings_of, lengths_of, calls_of}
+use Rattle.text.specs.Lines.{name_of, settings_of, lengths_of, calls_of}
 
 -- the lines still to be read, and how many were read
 pub record Left : Type 0 where
@@ -90,7 +90,7 @@ pub record Said : Type 0 where
 -- a case from its seven lines
 abbrev pub said : Left → Result (Said × Left) TextFault
 said here =
-    and_then (read_line Case name_of_id here) (λ name.
+    and_then (read_line Case name_of here) (λ name.
     and_then (read_line Set settings_of name.1) (λ settings.
     and_then (read_line Retain numbers settings.1) (λ retain.
     and_then (read_line Tables lengths_of retain.1) (λ tables.

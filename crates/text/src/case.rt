@@ -1,7 +1,7 @@
 // What a case is made of.
 ghost use Rattle.std.specs.Prelude.{◌≡◌, string_bytes};
 ghost use Rattle.text.specs.Gives.{Gives};
-ghost use Rattle.text.specs.Lines.{name_of_id, bit, settings_from, settings_of, lengths_from, lengths_of, call};
+ghost use Rattle.text.specs.Lines.{name_of, bit, settings_from, settings_of, lengths_from, lengths_of, call};
 
 use crate::fault::Problem;
 use crate::words::{FromWord, SPACE, cut, read_numbers, spells};
@@ -73,7 +73,7 @@ impl FromWord for Call {
 
 // Reads a name: one word of ASCII.
 pub fn read_name(heap: Global, rest: &[u8]) -> Result<String, Problem>
-    ensures { Gives (name_of_id rest.now) string_bytes result }
+    ensures { Gives (name_of rest.now) string_bytes result }
 {
     let (word, _) = cut(rest, SPACE);
     if word.is_empty() || word.len() != rest.len() {

@@ -5,7 +5,7 @@ ghost use Rattle.text.specs.declared.fault.Keyword.TheVariants.{Case as CaseLine
 ghost use Rattle.text.specs.Gives.{Finds, Gives};
 ghost use Rattle.text.specs.Keywords.{known};
 ghost use Rattle.text.specs.Numbers.{numbers};
-ghost use Rattle.text.specs.Lines.{name_of_id, settings_of, lengths_of, calls_of};
+ghost use Rattle.text.specs.Lines.{name_of, settings_of, lengths_of, calls_of};
 ghost use Rattle.text.specs.Place.{left_of, said_of};
 ghost use Rattle.text.specs.Reader.{left, skipped, pass_over_from, rest_of, numbered, due_line, read_line, nothing_of, said, next_said};
 
@@ -128,7 +128,7 @@ impl<'a> Cases<'a> {
 
     // The name of a case.
     fn name(&mut self, heap: Global) -> Result<String, TextFault>
-        ensures { Finds (read_line CaseLine name_of_id (left_of self.old)) (λ v. (string_bytes v, left_of self.new)) result }
+        ensures { Finds (read_line CaseLine name_of (left_of self.old)) (λ v. (string_bytes v, left_of self.new)) result }
     {
         let rest = self.due(Keyword::Case)?;
         self.here(read_name(heap, rest))

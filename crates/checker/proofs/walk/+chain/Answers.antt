@@ -24,7 +24,7 @@ returns-in_err-count t c =
     })
 
 -- the record that is taken sets a mark
-taken_less : (t : ℕ) (c : goal.In-ok-count t) → suc (unmarked (set c.loop-at.seen (c.loop-at.at - 1) true)) ≡ unmarked c.loop-at.seen
+taken_less : (t : ℕ) (c : goal.In_ok-count t) → suc (unmarked (set c.loop-at.seen (c.loop-at.at - 1) true)) ≡ unmarked c.loop-at.seen
 taken_less t c = one_less (omega arith) (omega (arith, c.requires.room)) c.in_ok-node.ensures
 
 pub overflow_add-count : goal.overflow_add-count

@@ -7,7 +7,7 @@ use Rattle.outline.proofs.Walking.{Turn, turns, names_more}
 use Rattle.outline.proofs.declared.+declare.Goals as goal
 
 -- the record that the loop is at
-turn : (t : ℕ) (c : goal.In-ok-declare t)
+turn : (t : ℕ) (c : goal.In_ok-declare t)
     → Turn c.args.words.now c.loop-number.number-iterator.at c.next.new.self.at c.in-Some.number c.in-Some.record
 turn t c =
     turns c.args.words.now c.loop-number.number-iterator.words.now c.loop-number.number-iterator.at c.next.new.self.at

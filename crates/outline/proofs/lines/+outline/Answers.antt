@@ -4,7 +4,7 @@ use Rattle.outline.proofs.Walking.{Turn, turns, outline_more}
 use Rattle.outline.proofs.lines.+outline.Goals as goal
 
 -- the record that the loop is at
-turn : (t : ℕ) (c : goal.In-ok-outline t)
+turn : (t : ℕ) (c : goal.In_ok-outline t)
     → Turn c.args.words.now c.loop-number.number-iterator.at c.next.new.self.at c.in-Some.number c.in-Some.record
 turn t c =
     turns c.args.words.now c.loop-number.number-iterator.words.now c.loop-number.number-iterator.at c.next.new.self.at

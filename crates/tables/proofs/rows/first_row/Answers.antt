@@ -12,5 +12,5 @@ returns-then-left-width c = rows_none c.args.width c.args.left.now c.requires (e
 pub returns : goal.returns
 returns c = (
   rows_split c.args.width c.args.left.now _ _ c.requires c.if-left-width.false c.if-left-eq0.false c.split_at.ensures.front c.split_at.ensures.back,
-  c.split_at.ensures.front-len,
+  c.split_at.ensures.front_len,
 )
