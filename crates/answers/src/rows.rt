@@ -8,7 +8,7 @@ use tables::{Row, Rows};
 
 /// Writes the rows of a table: each behind a space, its words apart by colons.
 pub fn write_rows<R: Row>(heap: Global, table: &[u32], out: &mut String) -> Result<(), AllocError>
-    ensures { OnOk result (string_bytes out.new ≡ string_bytes out.old ++ rows_text (rows wide table.now)) }
+    ensures { OnOk result (string_bytes out.new ≡ string_bytes out.old ++ rows_text (rows R.wide table.now)) }
 {
     for row in Rows::of::<R>(table) {
         write_row(heap, row, out)?;

@@ -42,22 +42,37 @@ fn judged(heap: Global, expression: &[u32]) -> Result<(Option<bool>, Option<bool
 fn expect(
     rt: &impl Abort,
     heap: Global,
+    what: &str,
     expression: &[u32],
     plain: bool,
     cautious: bool,
 ) -> Result<(), Fail> {
     let (by_plain, by_cautious) = judged(heap, expression)?;
-    assert_eq!(rt; by_plain, Some(plain));
-    assert_eq!(rt; by_cautious, Some(cautious));
+    assert_eq!(rt; by_plain, Some(plain), "{what}");
+    assert_eq!(rt; by_cautious, Some(cautious), "{what}");
     Ok(())
 }
 
 #[test]
 fn names_and_literals(rt: HostRuntime) -> Result<(), Fail> {
     let heap = rt.alloc();
-    expect(&rt, heap, &[27, 0, 9, 2, 0, 0], false, true).note("a resolved name")?;
-    expect(&rt, heap, &[27, 0, 9, 1, 0, 0], true, true).note("an unresolved name")?;
-    expect(&rt, heap, &[28, 0, 0, 0, 0, 0], false, false).note("a literal")
+    expect(
+        &rt,
+        heap,
+        "a resolved name",
+        &[27, 0, 9, 2, 0, 0],
+        false,
+        true,
+    )?;
+    expect(
+        &rt,
+        heap,
+        "an unresolved name",
+        &[27, 0, 9, 1, 0, 0],
+        true,
+        true,
+    )?;
+    expect(&rt, heap, "a literal", &[28, 0, 0, 0, 0, 0], false, false)
 }
 
 #[test]
@@ -66,27 +81,27 @@ fn functions_and_classes(rt: HostRuntime) -> Result<(), Fail> {
     expect(
         &rt,
         heap,
+        "a function expression",
         &[29, 0, 0, 0, 4, 0, 21, 0, 0, 0, 5, 0, 10, 0, 0, 0, 0, 0],
         false,
         false,
-    )
-    .note("a function expression")?;
+    )?;
     expect(
         &rt,
         heap,
+        "a class expression",
         &[30, 0, 0, 0, 4, 0, 22, 0, 0, 0, 0, 0],
         true,
         true,
-    )
-    .note("a class expression")?;
+    )?;
     expect(
         &rt,
         heap,
+        "an arrow, whatever its body",
         &[31, 0, 0, 0, 4, 0, 27, 0, 9, 1, 0, 0],
         false,
         false,
     )
-    .note("an arrow, whatever its body")
 }
 
 #[test]
@@ -95,38 +110,43 @@ fn expressions_made_of_others(rt: HostRuntime) -> Result<(), Fail> {
     expect(
         &rt,
         heap,
+        "arithmetic on a literal",
         &[32, 0, 0, 0, 4, 0, 28, 0, 0, 0, 0, 0],
         false,
         true,
-    )
-    .note("arithmetic on a literal")?;
-    expect(
-        &rt,
-        heap,
-        &[32, 0, 0, 0, 4, 0, 28, 0, 0, 0, 0, 5, 27, 0, 9, 1, 0, 0],
-        true,
-        true,
-    )
-    .note("its second operand acts")?;
-    expect(&rt, heap, &[32, 1, 0, 0, 0, 0], true, true).note(
-        "a plain expression that acts by itself",
     )?;
     expect(
         &rt,
         heap,
-        &[33, 0, 0, 0, 4, 0, 27, 0, 9, 2, 0, 0],
-        false,
+        "its second operand acts",
+        &[32, 0, 0, 0, 4, 0, 28, 0, 0, 0, 0, 5, 27, 0, 9, 1, 0, 0],
         true,
-    )
-    .note("an object of a resolved name")?;
+        true,
+    )?;
     expect(
         &rt,
         heap,
+        "a plain expression that acts by itself",
+        &[32, 1, 0, 0, 0, 0],
+        true,
+        true,
+    )?;
+    expect(
+        &rt,
+        heap,
+        "an object of a resolved name",
+        &[33, 0, 0, 0, 4, 0, 27, 0, 9, 2, 0, 0],
+        false,
+        true,
+    )?;
+    expect(
+        &rt,
+        heap,
+        "an object, two deep",
         &[33, 0, 0, 0, 4, 0, 32, 0, 0, 0, 5, 0, 27, 0, 9, 1, 0, 0],
         true,
         true,
     )
-    .note("an object, two deep")
 }
 
 #[test]
@@ -135,25 +155,25 @@ fn what_always_acts(rt: HostRuntime) -> Result<(), Fail> {
     expect(
         &rt,
         heap,
+        "a call",
         &[34, 0, 0, 0, 4, 0, 27, 0, 9, 2, 0, 0],
         true,
         true,
-    )
-    .note("a call")?;
+    )?;
     expect(
         &rt,
         heap,
+        "a delete",
         &[35, 0, 0, 0, 4, 0, 27, 0, 9, 2, 0, 0],
         true,
         true,
-    )
-    .note("a delete")?;
+    )?;
     expect(
         &rt,
         heap,
+        "an assignment",
         &[36, 0, 0, 0, 4, 0, 37, 0, 9, 2, 0, 5, 28, 0, 0, 0, 0, 0],
         true,
         true,
     )
-    .note("an assignment")
 }

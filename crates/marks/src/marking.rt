@@ -44,7 +44,7 @@ impl<'t> NameSink for EachName<'t> {
 
     ghost held = { λ s. marking s.names.now s.at };
 
-    ghost fixed = { λ s. (s.names.name, zeroed names_width s.names.now) };
+    ghost fixed = { λ s. (s.names.ghost_name, zeroed names_width s.names.now) };
 
     ghost takes = { mark_each };
 
@@ -76,7 +76,7 @@ impl<'t, 's> NameSink for FirstOfName<'t, 's> {
 
     ghost held = { λ s. once s.names.now (noted s.seen.now s.count) s.at };
 
-    ghost fixed = { λ s. (s.names.name, zeroed names_width s.names.now) };
+    ghost fixed = { λ s. (s.names.ghost_name, zeroed names_width s.names.now) };
 
     ghost takes = { mark_once };
 

@@ -26,13 +26,16 @@ mod tests {
                 edges: 8,
             }
         );
-        assert!(rt; first.tree.as_slice() == [1, 0, 4294967295]);
-        assert!(rt; first.calls.as_slice() == [Call::Begin, Call::Pass, Call::Reset, Call::Repeat]);
+        assert!(rt; first.tree.as_slice() == [1, 0, 4294967295].as_slice());
+        assert!(rt;
+            first.calls.as_slice()
+                == [Call::Begin, Call::Pass, Call::Reset, Call::Repeat].as_slice()
+        );
         let second = cases.next_case(heap)?.ok_or("no second case")?;
         assert!(rt; second.name.as_str() == "last");
         assert!(rt; !second.settings.top_level && second.settings.preserve_imports);
         assert_eq!(rt; second.settings.judge, Judge::Cautious);
-        assert!(rt; second.retain.as_slice() == [4, 5]);
+        assert!(rt; second.retain.as_slice() == [4, 5].as_slice());
         assert!(rt; second.tree.is_empty() && second.calls.is_empty());
         assert!(rt; cases.next_case(heap)?.is_none());
         Ok(())
@@ -136,7 +139,7 @@ mod tests {
     #[test]
     fn numbers_are_below_two_to_the_32(rt: HostRuntime) -> Result<(), Fail> {
         let numbers = read_numbers(rt.alloc(), b" 0  9 4294967295 007 ")?;
-        assert!(rt; numbers.as_slice() == [0, 9, 4294967295, 7]);
+        assert!(rt; numbers.as_slice() == [0, 9, 4294967295, 7].as_slice());
         Ok(())
     }
 

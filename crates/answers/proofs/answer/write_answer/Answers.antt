@@ -12,6 +12,6 @@ returns-in-ResetRefused c = said_as _ _ _ _ _ (ap answer_text c.in-ResetRefused.
 pub returns-in-PassRefused : goal.returns-in-PassRefused
 returns-in-PassRefused c = said_as _ _ _ _ _ (ap answer_text c.in-PassRefused.is) c.write_refusal-in-PassRefused.ensures
 
-pub returns-in_ok-write_refusal : goal.returns-in_ok-write_refusal
-returns-in_ok-write_refusal c =
-    then_said _ _ _ _ _ _ _ c.in_ok-write_refusal.ensures c.write_number.ensures (ap answer_text c.in-RepeatRefused.is)
+pub returns-in_ok-write_refusal-in-RepeatRefused : goal.returns-in_ok-write_refusal-in-RepeatRefused
+returns-in_ok-write_refusal-in-RepeatRefused c =
+    then_said _ _ _ _ _ _ _ c.in_ok-write_refusal-in-RepeatRefused.ensures c.write_number.ensures (ap answer_text c.in-RepeatRefused.is)
