@@ -36,7 +36,7 @@ impl<'t> NameSink for Declaring<'t> {
 
     ghost held = { λ s. s.table.now };
 
-    ghost fixed = { λ s. (s.table.name, zeroed declared_width s.table.now) };
+    ghost fixed = { λ s. (s.table.ghost_name, zeroed declared_width s.table.now) };
 
     ghost takes = { declare_words };
 

@@ -18,7 +18,7 @@ visit_children-loop-n-preserved t c =
       search rules,
       search rules,
       walk_on c.args.scope.now c.loop-n.scope c.args.path.now c.loop-n.path c.args.words.now c.loop-n.n-iterator.words.now
-          c.into-iter-n-iterator.result.at c.loop-n.n-iterator.at c.in-Some.n c.in-Some.node _ _ _
+          c.into_iter-n-iterator.result.at c.loop-n.n-iterator.at c.in-Some.n c.in-Some.node _ _ _
           inv.2 inv.3 inv.0.0 steps.1.0 steps.1.2 inv.6 c.in_ok-visit_node.ensures.walk
           ∙ ap (λ (at : ℕ). walk (here c.args.scope.now c.args.path.now) (tree_of c.args.words.now at) (state visited.names visited.edges visited.notes)) (sym steps.1.1),
     )
@@ -29,7 +29,7 @@ visit_children-returns-in_err-visit_node t c =
     let inv = c.loop-n.invariant in
     let stops =
     walk_on c.args.scope.now c.loop-n.scope c.args.path.now c.loop-n.path c.args.words.now c.loop-n.n-iterator.words.now
-    c.into-iter-n-iterator.result.at c.loop-n.n-iterator.at c.in-Some.n c.in-Some.node _ _ _
+    c.into_iter-n-iterator.result.at c.loop-n.n-iterator.at c.in-Some.n c.in-Some.node _ _ _
     inv.2 inv.3 inv.0.0 steps.1.0 steps.1.2 inv.6 c.in_err-visit_node.ensures.walk in
     record { scope = search rules; path = search rules; names_behind = search rules; edges_behind = search rules; walk = search rules }
 

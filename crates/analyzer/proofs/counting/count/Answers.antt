@@ -12,9 +12,9 @@ returns c =
     let nameless : Id = record { symbol = 0; mark = 0 } in
     record {
       events =
-          tree_counted (tree_of c.args.words.now 1) c.outermost_scope.result (replicate 128 nameless) c.args.names.now c.args.edges.now c.none-notes.result
+          tree_counted (tree_of c.args.words.now 1) c.outermost-scope.result (replicate 128 nameless) c.args.names.now c.args.edges.now c.none-notes.result
           (state left.names left.edges left.notes) c.visit_children.result
-          c.outermost_scope.ensures c.none-notes.ensures c.visit_children.ensures.walk;
+          c.outermost-scope.ensures c.none-notes.ensures c.visit_children.ensures.walk;
       names_behind = search rules;
       edges_behind = search rules;
     }
