@@ -1,7 +1,7 @@
 -- The code's walk enters the events that the book counts, in the book's order.
 -- What surrounds a place in the book is seen as the code holds it: of the scopes' paths, the names that hold a reference there, and whether the innermost is empty.
 -- What is found in a part of the tree is entered into a state; one part after another is entered one after another.
-use Rattle.std.proofs.Common.{◌≡◌, ℕ, Bool, true, false, ◌&&◌, ◌||◌, eqb, List, [], ◌∷◌, ◌++◌, length, sym, refl, ap, ◌∙◌, append_assoc, arith}
+use Rattle.std.proofs.Common.{◌≡◌, Bool, true, false, ◌&&◌, ◌||◌, eqb, List, [], ◌∷◌, ◌++◌, length, sym, refl, ap, ◌∙◌, append_assoc, arith}
 use Rattle.std.proofs.lemmas.Bool.{ne_eqb}
 use Rattle.rules.specs.Tree.{Head, Chain, Name, if◌then◌else◌, ◌is◌, name_of, unnumbered_head}
 use Rattle.rules.specs.Tree.Chain.{end, link}
@@ -16,7 +16,7 @@ use Rattle.tables.specs.declared.key.Id.{Id}
 use Rattle.data.specs.Events.{Tables, entered}
 use Rattle.data.specs.Filling.{id_of, ids_of, enter_words, fill_words}
 use Rattle.analyzer.specs.declared.notes.Notes.{Notes}
-use Rattle.analyzer.specs.Scopes.{Here, held_with, here_inside, no_notes, with_arguments}
+use Rattle.analyzer.specs.Scopes.{Here, held_with, here_inside, no_notes}
 use Rattle.analyzer.specs.Walk.{State, none_hold, referred, named, leaving, left_scope}
 
 -- what goes on alike ends alike

@@ -1,16 +1,15 @@
 -- The declared table, filled name by name in words, is the book's.
 -- A name that has a row leaves the words as they are; another gets the first free row or is refused. Both sides go on alike, so they agree on any list of names.
-use Rattle.std.proofs.Common.{◌≡◌, ℕ, ◌/◌, ◌<◌, Bool, true, false, List, [], ◌∷◌, ◌++◌, length, Some, None, Ok, Err, Option, Result, sym, refl, subst, MatchResult}
+use Rattle.std.proofs.Common.{◌≡◌, ℕ, ◌/◌, Bool, true, false, List, [], ◌∷◌, ◌++◌, length, Some, None, Ok, Err, Option, Result, sym, refl, subst, MatchResult}
 use Rattle.rules.specs.Tree.{Head, Name, if◌then◌else◌, name_of}
 use Rattle.rules.specs.Names.{same}
 use Rattle.rules.specs.Refusals.{Outcome, and_then, declared_full}
 use Rattle.rules.specs.Refusals.Outcome.{fine, refused}
 use Rattle.rules.specs.Tables.{declared_width, need, declare}
-use Rattle.tables.specs.declared.key.Id.{Id}
 use Rattle.tables.specs.declared.fault.TableFault.{TableFault}
 use Rattle.tables.specs.declared.fault.TableFault.TheVariants.{Declared}
 use Rattle.tables.specs.Faults.{number, place}
-use Rattle.tables.specs.Living.{rows, used, free, first_row, added}
+use Rattle.tables.specs.Living.{rows, free, first_row, added}
 use Rattle.tables.specs.Matching.{DeclaredHeld, Needed, id_keyed, id_words}
 use Rattle.tables.proofs.Matched.{declared_needed}
 use Rattle.names.specs.Sinks.{each}

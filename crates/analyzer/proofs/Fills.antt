@@ -1,5 +1,5 @@
 -- What filling leaves is the book's: a table with rows stays, and one without is zeroed and filled, or zeroed again if it is full.
-use Rattle.std.proofs.Common.{◌≡◌, ℕ, ◌/◌, Bool, true, false, ltb, List, [], ◌∷◌, length, sym, refl, ap, ◌∙◌, subst, arith}
+use Rattle.std.proofs.Common.{◌≡◌, ℕ, ◌/◌, true, false, ltb, List, [], ◌∷◌, length, sym, refl, ap, ◌∙◌, subst, arith}
 use Rattle.std.proofs.lemmas.Bool.{both_ways, ltb-false}
 use Rattle.rules.specs.Tree.{Chain, Name}
 use Rattle.rules.specs.Names.{declared}

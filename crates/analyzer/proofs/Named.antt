@@ -1,10 +1,10 @@
 -- In a tree formed by the table of kinds every record that declares bears a name: its symbol is not 0.
 -- The kinds that declare wherever they stand, and those that bind, are among the named; the child of an Export default declares only if it has a symbol.
-use Rattle.std.proofs.Common.{◌≡◌, ℕ, ◌<◌, Bool, true, false, cond, not, ◌&&◌, ◌||◌, eqb, List, [], ◌∷◌, ◌++◌, sym, refl, ap, ◌∙◌, arith}
+use Rattle.std.proofs.Common.{◌≡◌, ◌<◌, Bool, true, false, cond, not, ◌&&◌, ◌||◌, eqb, List, [], ◌∷◌, ◌++◌, refl, arith}
 use Rattle.std.proofs.lemmas.Bool.{both_ways, eqb-false}
 use Rattle.rules.specs.Tree.{Head, Chain, ◌is◌}
 use Rattle.rules.specs.Tree.Chain.{end, link}
-use Rattle.rules.specs.Kinds.{specifier, export_name, fn_declaration, class_declaration, identifier, literal, name_pattern, property_name, definition_expression, known}
+use Rattle.rules.specs.Kinds.{specifier, export_name, fn_declaration, class_declaration, identifier, name_pattern, property_name, definition_expression, known}
 use Rattle.rules.specs.Grammar.{Way, words_fit, flags_fit, name_fits, children_of, step}
 use Rattle.rules.specs.Held.{Formed}
 use Rattle.rules.specs.Names.{keep, Under, under, declares, declaring}

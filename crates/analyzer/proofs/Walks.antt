@@ -1,11 +1,10 @@
 -- One record more of a chain, by the code's walk.
 -- The code's scope and path come back as they were, so what surrounds the next record is what surrounded the first.
-use Rattle.std.proofs.Common.{◌≡◌, ℕ, List, take, drop, sym, refl, ap, ◌∙◌, subst}
+use Rattle.std.proofs.Common.{◌≡◌, ℕ, List, take, drop, sym, ap, ◌∙◌, subst}
 use Rattle.rules.specs.Tree.{Head, Chain}
 use Rattle.rules.specs.Tree.Chain.{link}
 use Rattle.rules.specs.Words.{tree_of}
 use Rattle.rules.specs.Refusals.{Outcome, and_then}
-use Rattle.rules.specs.Refusals.Outcome.{fine, refused}
 use Rattle.records.specs.declared.record.Record.{Record}
 use Rattle.records.specs.Cursor.{Opened}
 use Rattle.records.specs.KindWords.{kind_word}

@@ -1,3 +1,5 @@
+#![tactic(auto)]
+
 mod counting;
 mod declaring;
 mod fault;

@@ -1,7 +1,6 @@
 -- A text that begins with another, and one that does not.
-use Rattle.std.proofs.Common.{◌≡◌, ℕ, ◌+◌, ◌-◌, ◌<◌, ◌≤◌, List, ◌++◌, length, get_or, take, drop, sym, ap, ◌∙◌, ⊎_elim, arith, length-append, length-drop}
+use Rattle.std.proofs.Common.{◌≡◌, ℕ, ◌+◌, ◌-◌, ◌<◌, ◌≤◌, List, ◌++◌, length, get_or, take, drop, sym, ap, ◌∙◌, arith, length-append, length-drop}
 use Rattle.std.proofs.lemmas.List.{take-append-drop, take_all, get_or_append_left}
-use Rattle.std.proofs.lemmas.Bool.{cases_lt}
 
 -- so many bytes agree, and those are all of the second: the first goes on behind it
 pub stored_behind : (stored found : List ℕ) (n : ℕ) → n ≡ length found → n ≤ length stored → take n stored ≡ take n found

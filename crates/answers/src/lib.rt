@@ -1,4 +1,6 @@
 // The answers of a case as text, and their comparison with stored ones.
+#![tactic(auto)]
+
 mod answer;
 mod compare;
 mod number;

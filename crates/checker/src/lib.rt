@@ -1,3 +1,5 @@
+#![tactic(auto)]
+
 ghost use Rattle.std.specs.Prelude.{◌≡◌, ◌≤◌, length, MatchResult, ◌==◌};
 ghost use Rattle.rules.specs.Refusals.Outcome.{refused};
 ghost use Rattle.rules.specs.Words.{next};

@@ -1,3 +1,5 @@
+#![tactic(auto)]
+
 pub mod event;
 
 pub use event::{add, count_name};

@@ -1,12 +1,12 @@
 -- Words that did not change. A chain that the words hold is held by other words that are as many and agree in all words of
 -- the chain's records. The words of record n are those that n owns.
-use Rattle.std.proofs.Common.{◌≡◌, ℕ, ◌+◌, ◌-◌, ◌*◌, ◌/◌, ◌<◌, ◌≤◌, Bool, true, false, List, length, get_or, set, sym, refl, ap, ◌∙◌, subst, inl, inr, arith, length-set, get_or-set_other, get_or-set_same}
-use Rattle.std.proofs.lemmas.Bool.{leb-true, le-leb, and_parts, and_from, both_ways}
+use Rattle.std.proofs.Common.{◌≡◌, ℕ, ◌+◌, ◌-◌, ◌*◌, ◌<◌, ◌≤◌, true, false, List, length, get_or, set, sym, refl, ap, ◌∙◌, subst, inl, inr, arith, length-set, get_or-set_other}
+use Rattle.std.proofs.lemmas.Bool.{and_parts}
 use Rattle.rules.specs.Tree.{Head, Chain, is_end}
 use Rattle.rules.specs.Tree.Chain.{end, link}
 use Rattle.rules.specs.Kinds.{within, known}
 use Rattle.rules.specs.Words.{word, records, stands, head_at, first_child, next, Holds}
-use Rattle.rules.specs.Held.{Numbers, Apart}
+use Rattle.rules.specs.Held.{Numbers}
 use Rattle.rules.proofs.Sizes.{stands_positive, stands_within}
 use Rattle.edit.specs.Slots.{owner, first_slot, next_slot}
 

@@ -1,17 +1,17 @@
 -- Values as one expression. The first Declarator's record is in none of the values, so that it can stand over them.
-use Rattle.std.proofs.Common.{◌≡◌, ℕ, ◌+◌, ◌-◌, ◌*◌, ◌/◌, ◌<◌, ◌≤◌, Bool, true, false, ◌⊎◌, List, length, get_or, set, sym, refl, ap, ◌∙◌, subst, inl, inr, arith, length-set}
+use Rattle.std.proofs.Common.{◌≡◌, ℕ, ◌+◌, ◌-◌, ◌*◌, ◌≤◌, true, ◌⊎◌, List, length, get_or, sym, refl, ap, ◌∙◌, subst, inl, inr, arith}
 use Rattle.std.proofs.lemmas.Bool.{cond-true, cond-false}
-use Rattle.rules.specs.Tree.{Head, Chain, is_end, below, after, alone, append}
+use Rattle.rules.specs.Tree.{Head, Chain, is_end, after}
 use Rattle.rules.specs.Tree.Chain.{end, link}
-use Rattle.rules.specs.Kinds.{within, known, plain_expression, expression_statement}
-use Rattle.rules.specs.Words.{word, stands, records, head_at, first_child, next, Holds}
+use Rattle.rules.specs.Kinds.{within, plain_expression, expression_statement}
+use Rattle.rules.specs.Words.{word, records, Holds}
 use Rattle.rules.specs.Held.{Numbers, Apart}
 use Rattle.rules.specs.Removal.{become, values, joined}
 use Rattle.records.specs.Writes.{with_word, turned}
-use Rattle.edit.specs.Slots.{owner, first_slot, next_slot, Linked, Part, Made, onto, wrapped}
+use Rattle.edit.specs.Slots.{owner, first_slot, Linked, Made, onto, wrapped}
 use Rattle.edit.proofs.Frames.{stands_there, zero_ends, other_goes_on, frame}
 use Rattle.edit.proofs.Moves.{again, then, number_at, beneath_by}
-use Rattle.edit.proofs.Titles.{Wrote, set_wrote, word_wrote, there_within, there_again, Titled, turned_titled, titled_holds, retitled}
+use Rattle.edit.proofs.Titles.{Wrote, set_wrote, word_wrote, there_within, there_again, turned_titled, titled_holds, retitled}
 
 onto_numbers : (p rest : Chain) (x : ℕ) → Numbers x (onto p rest) → Numbers x p ⊎ Numbers x rest
 onto_numbers end rest x k = inr k

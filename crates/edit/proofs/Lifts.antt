@@ -1,15 +1,15 @@
 -- A record that gives way. The slot links past it, or to a record below it whose own next is then what followed the first.
-use Rattle.std.proofs.Common.{◌≡◌, ℕ, ◌+◌, ◌-◌, ◌*◌, ◌/◌, ◌<◌, ◌≤◌, Bool, true, false, List, length, get_or, set, sym, refl, ap, ◌∙◌, subst, inl, inr, arith, length-set, get_or-set_other, get_or-set_same}
+use Rattle.std.proofs.Common.{◌≡◌, ℕ, ◌+◌, ◌-◌, ◌*◌, ◌/◌, ◌≤◌, true, false, List, length, get_or, set, sym, refl, ap, ◌∙◌, subst, inl, inr, arith, length-set, get_or-set_other, get_or-set_same}
 use Rattle.std.proofs.lemmas.Bool.{cond-true, true≢false}
 use Rattle.rules.specs.Tree.{Head, Chain, is_end, below, after}
 use Rattle.rules.specs.Tree.Chain.{end, link}
 use Rattle.rules.specs.Kinds.{within}
-use Rattle.rules.specs.Words.{word, stands, records, head_at, first_child, next, Holds}
+use Rattle.rules.specs.Words.{word, records, first_child, Holds}
 use Rattle.rules.specs.Held.{Numbers, Apart}
 use Rattle.records.specs.Writes.{with_word}
-use Rattle.edit.specs.Slots.{owner, first_slot, next_slot, Linked, Part, Made, onto, slot_after, Lift, Step}
-use Rattle.edit.proofs.Frames.{number_is, number_positive, number_within, stands_there, stands_same, head_same, owns_first, owns_next, frame, frame_set}
-use Rattle.edit.proofs.Moves.{number_at, part_onto}
+use Rattle.edit.specs.Slots.{owner, next_slot, Linked, Part, Made, Lift, Step}
+use Rattle.edit.proofs.Frames.{number_is, number_positive, number_within, stands_there, stands_same, head_same, owns_next, frame, frame_set}
+use Rattle.edit.proofs.Moves.{part_onto}
 
 -- a write to a record that is there
 pub written : (w : List ℕ) (n i x : ℕ) → within 1 (records w) n ≡ true → with_word w n i x ≡ set w (6 * (n - 1) + i) x

@@ -6,10 +6,10 @@
 --   beneath, beneath_by, along, past               what is made there, seen from the slot of the record
 --   part_onto                          a piece in the place of the record that it was below
 --   Going, started, turn, ended        the loop
-use Rattle.std.proofs.Common.{◌≡◌, ℕ, ◌+◌, ◌-◌, ◌*◌, ◌/◌, ◌<◌, ◌≤◌, Bool, true, false, List, length, get_or, set, sym, refl, ap, ◌∙◌, subst, inl, inr, arith, length-set}
-use Rattle.rules.specs.Tree.{Head, Chain, is_end, below, after}
+use Rattle.std.proofs.Common.{◌≡◌, ℕ, ◌+◌, ◌-◌, ◌*◌, ◌<◌, ◌≤◌, List, length, get_or, sym, refl, ap, ◌∙◌, subst, inl, inr, arith}
+use Rattle.rules.specs.Tree.{Head, Chain}
 use Rattle.rules.specs.Tree.Chain.{end, link}
-use Rattle.rules.specs.Words.{word, stands, head_at, first_child, next, Holds, tree_of}
+use Rattle.rules.specs.Words.{word, first_child, next, Holds, tree_of}
 use Rattle.rules.specs.Held.{Numbers, Apart}
 use Rattle.rules.specs.Opening.{siblings}
 use Rattle.rules.proofs.Reading.{read_back}

@@ -1,16 +1,16 @@
 -- A record of another kind. A write changes one word; four of them make a record another one, and leave its links.
-use Rattle.std.proofs.Common.{◌≡◌, ℕ, ◌+◌, ◌-◌, ◌*◌, ◌/◌, ◌<◌, ◌≤◌, Bool, true, false, ◌&&◌, leb, List, length, get_or, set, sym, refl, ap, ◌∙◌, subst, inl, inr, arith, length-set, get_or-set_other, get_or-set_same}
-use Rattle.std.proofs.lemmas.Bool.{cond-true, leb-true, and_parts, and_from}
+use Rattle.std.proofs.Common.{◌≡◌, ℕ, ◌+◌, ◌-◌, ◌*◌, ◌/◌, ◌<◌, ◌≤◌, true, leb, List, length, get_or, set, sym, refl, ap, ◌∙◌, subst, inl, arith, length-set, get_or-set_other, get_or-set_same}
+use Rattle.std.proofs.lemmas.Bool.{leb-true, and_parts, and_from}
 use Rattle.rules.specs.Tree.{Head, Chain}
 use Rattle.rules.specs.Tree.Chain.{end, link}
 use Rattle.rules.specs.Kinds.{within, known, empty_statement}
-use Rattle.rules.specs.Words.{word, stands, records, head_at, first_child, next, Holds}
-use Rattle.rules.specs.Held.{Numbers, Apart}
+use Rattle.rules.specs.Words.{word, records, first_child, next, Holds}
+use Rattle.rules.specs.Held.{Numbers}
 use Rattle.rules.specs.Removal.{become}
 use Rattle.records.specs.Writes.{with_word, turned}
-use Rattle.edit.specs.Slots.{owner, first_slot, next_slot, Linked, Part, Made}
-use Rattle.edit.proofs.Frames.{stands_there, owns_first, frame}
-use Rattle.edit.proofs.Moves.{again, then, number_at, positive_at, within_at, child_at, beneath}
+use Rattle.edit.specs.Slots.{owner, first_slot, Linked, Made}
+use Rattle.edit.proofs.Frames.{stands_there, frame}
+use Rattle.edit.proofs.Moves.{again, then, number_at, beneath}
 use Rattle.edit.proofs.Lifts.{written}
 
 -- one word changed

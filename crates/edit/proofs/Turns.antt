@@ -1,13 +1,13 @@
 -- The turns of the two loops along a chain: `sweep` unlinks a record or passes it, and `gather` puts its second child in its place.
-use Rattle.std.proofs.Common.{◌≡◌, ℕ, ◌<◌, Bool, true, false, ◌&&◌, ◌||◌, List, length, get_or, sym, refl, ap, ◌∙◌, subst, arith}
+use Rattle.std.proofs.Common.{◌≡◌, ℕ, ◌<◌, true, false, ◌&&◌, ◌||◌, List, get_or, sym, refl, ap, ◌∙◌, subst}
 use Rattle.std.proofs.lemmas.Bool.{cond-true, cond-false, true≢false}
 use Rattle.rules.specs.Tree.{Head, Chain, ◌is◌, is_end, below, after}
 use Rattle.rules.specs.Tree.Chain.{end, link}
 use Rattle.rules.specs.Kinds.{empty_statement, block}
 use Rattle.rules.specs.Removal.{swept, values}
-use Rattle.edit.specs.Slots.{next_slot, Linked, Made, onto, slot_after, Step, nothing}
+use Rattle.edit.specs.Slots.{next_slot, Linked, onto, Step, nothing}
 use Rattle.edit.proofs.Frames.{other_goes_on}
-use Rattle.edit.proofs.Moves.{Going, to_go, turn, same, number_at, positive_at}
+use Rattle.edit.proofs.Moves.{Going, to_go, turn, same, number_at}
 
 -- a loop that does F, at a slot
 abbrev pub At : (F : Chain → Chain) (w0 : List ℕ) (i0 : ℕ) (c : Chain) (w : List ℕ) (i : ℕ) → Type 0

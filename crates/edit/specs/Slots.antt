@@ -8,8 +8,8 @@
 --   Lift, Step                        a record that gives way to one below it, or to none; what that comes to
 --   nothing                           what a list drops
 --   wrapped                           a chain put under a plain expression
-use Rattle.std.specs.Prelude.{◌≡◌, ℕ, ◌+◌, ◌-◌, ◌*◌, ◌/◌, ◌<◌, ◌≤◌, Bool, true, false, ◌&&◌, ◌||◌, List, length, ◌≢◌, slice_index, slice_set}
-use Rattle.rules.specs.Tree.{Head, Chain, ◌is◌, is_end, below, after, alone, append}
+use Rattle.std.specs.Prelude.{◌≡◌, ℕ, ◌+◌, ◌-◌, ◌*◌, ◌/◌, ◌<◌, Bool, false, ◌&&◌, ◌||◌, List, length, ◌≢◌, slice_index, slice_set}
+use Rattle.rules.specs.Tree.{Chain, ◌is◌, is_end, below, after, alone, append}
 use Rattle.rules.specs.Tree.Chain.{end, link}
 use Rattle.rules.specs.Kinds.{empty_statement, block, plain_expression}
 use Rattle.rules.specs.Words.{Holds}

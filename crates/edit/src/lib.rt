@@ -1,3 +1,5 @@
+#![tactic(auto)]
+
 pub mod kinds;
 pub mod lifting;
 pub mod lists;

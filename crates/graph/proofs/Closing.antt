@@ -4,7 +4,7 @@ use Rattle.std.proofs.Common.{◌≡◌, ℕ, ◌+◌, ◌-◌, ◌<◌, ◌≤�
 use Rattle.std.proofs.lemmas.List.{get_or-set_same, get_or-set_other}
 use Rattle.std.proofs.lemmas.Bool.{cases_eq, cases_lt, ne_eqb}
 use Rattle.graph.specs.Graphs.{source, target, Leads, Inside}
-use Rattle.graph.specs.Searching.{unseen, Sized, Stacked, Walked, Chained, Bordered, Followed, Settled, Search, Seen, Stamped}
+use Rattle.graph.specs.Searching.{Stacked, Walked, Chained, Bordered, Followed, Settled, Search, Seen, Stamped}
 use Rattle.graph.proofs.Leading.{segment_leads}
 use Rattle.graph.proofs.Entering.{by_node, unseen_set}
 

@@ -1,10 +1,10 @@
 -- A search begins with all nodes unseen, and ends with all nodes settled. Then places, less what stands before them, are labels.
-use Rattle.std.proofs.Common.{◌≡◌, ℕ, ◌+◌, ◌-◌, ◌^◌, ◌<◌, ◌≤◌, eqb, ◌⊎◌, List, length, get_or, sym, refl, ap, ◌∙◌, subst, inl, inr, ⊎_elim, arith}
+use Rattle.std.proofs.Common.{◌≡◌, ℕ, ◌+◌, ◌<◌, ◌≤◌, eqb, List, length, get_or, sym, refl, ap, subst, ⊎_elim, arith}
 use Rattle.std.proofs.lemmas.List.Sums.{count_by-le-length}
 use Rattle.std.proofs.lemmas.Bool.{cases_lt}
-use Rattle.graph.specs.Graphs.{source, target, Edge, Leads, Inside, Components}
+use Rattle.graph.specs.Graphs.{source, target, Leads, Inside, Components}
 use Rattle.graph.specs.Graphs.Leads.{here, onward}
-use Rattle.graph.specs.Searching.{Latest, Linked, Sized, Stacked, Walked, Chained, Bordered, Followed, Settled, Search}
+use Rattle.graph.specs.Searching.{Linked, Sized, Search}
 
 -- all nodes are unseen, and no edge is followed
 pub begun : {es : List (ℕ × ℕ)} {n : ℕ} {links turns stack back bs places : List ℕ} → Sized n turns stack back bs places → Linked es n (length es) turns links

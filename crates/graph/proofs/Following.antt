@@ -1,13 +1,11 @@
 -- An edge is followed. Before that, borders above the place that it enters are dropped: what stands between leads down to it and up again.
-use Rattle.std.proofs.Common.{◌≡◌, ℕ, zero, suc, ◌+◌, ◌-◌, ◌*◌, ◌<◌, ◌≤◌, ◌⊎◌, List, length, get_or, set, sum, sym, refl, ap, ◌∙◌, subst, inl, inr, ⊎_elim, mul-le-mul_right, add-mul, arith, below_more}
+use Rattle.std.proofs.Common.{◌≡◌, ℕ, ◌+◌, ◌-◌, ◌<◌, ◌≤◌, ◌⊎◌, List, length, get_or, set, sym, ap, ◌∙◌, subst, ⊎_elim, arith}
 use Rattle.std.proofs.lemmas.List.{get_or-set_same, get_or-set_other, length-set}
-use Rattle.std.proofs.lemmas.List.Sums.{sum_by-set}
 use Rattle.std.proofs.lemmas.Bool.{cases_eq, cases_lt, cases_order}
 use Rattle.graph.specs.Graphs.{source, target, Leads, Inside}
-use Rattle.graph.specs.Graphs.Leads.{here}
-use Rattle.graph.specs.Searching.{Latest, Star, Sized, Stacked, Walked, Chained, Bordered, Followed, Settled, Search, left}
+use Rattle.graph.specs.Searching.{Latest, Star, Search}
 use Rattle.graph.proofs.Leading.{leads_then, leads_edge, border_top, segment_leads, find}
-use Rattle.graph.proofs.Entering.{by_node, entered}
+use Rattle.graph.proofs.Entering.{by_node}
 
 -- the next edge of a seen node is followed, if it leads over no border downwards
 pub followed : {es : List (ℕ × ℕ)} {n : ℕ} {links turns stack back bs places : List ℕ} {top at depth count : ℕ}

@@ -1,7 +1,7 @@
 -- Edges that lead on: from one end to the next, and down a segment of the stack.
-use Rattle.std.proofs.Common.{◌≡◌, ℕ, zero, suc, ◌+◌, ◌-◌, ◌<◌, ◌≤◌, ◌⊎◌, List, length, get_or, sym, refl, subst, inl, inr, ⊎_elim, arith}
+use Rattle.std.proofs.Common.{◌≡◌, ℕ, zero, suc, ◌+◌, ◌-◌, ◌<◌, ◌≤◌, ◌⊎◌, List, length, get_or, refl, subst, inl, inr, ⊎_elim, arith}
 use Rattle.std.proofs.lemmas.Bool.{cases_eq, cases_lt}
-use Rattle.graph.specs.Graphs.{source, target, Edge, Leads}
+use Rattle.graph.specs.Graphs.{source, target, Leads}
 use Rattle.graph.specs.Graphs.Leads.{here, onward}
 use Rattle.graph.specs.Searching.{Chained, Bordered}
 

@@ -2,7 +2,7 @@
 use Rattle.std.proofs.Common.{◌≡◌, ℕ, ◌+◌, ◌<◌, ◌≤◌, ◌⊎◌, List, length, get_or, set, sym, refl, ◌∙◌, subst, ⊎_elim, arith, below_more}
 use Rattle.std.proofs.lemmas.List.{get_or-set_same, get_or-set_other}
 use Rattle.std.proofs.lemmas.Bool.{cases_eq}
-use Rattle.graph.specs.Graphs.{source, target, Inside}
+use Rattle.graph.specs.Graphs.{source, target}
 use Rattle.graph.specs.Refusals.{Stray}
 use Rattle.graph.specs.Searching.{Latest, Star, Linked}
 use Rattle.graph.proofs.Entering.{by_node}

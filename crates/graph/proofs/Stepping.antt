@@ -1,9 +1,9 @@
 -- The steps of a search as the code takes them: the node whose turn it is, its next edge, and where that leads.
-use Rattle.std.proofs.Common.{◌≡◌, ℕ, ◌+◌, ◌-◌, ◌*◌, ◌<◌, ◌≤◌, ◌⊎◌, List, length, get_or, set, sum, sym, refl, ap, ◌∙◌, subst, ⊎_elim, mul-le-mul_right, add-mul, arith}
+use Rattle.std.proofs.Common.{◌≡◌, ℕ, ◌+◌, ◌-◌, ◌*◌, ◌<◌, ◌≤◌, List, length, get_or, set, sum, sym, ap, subst, ⊎_elim, mul-le-mul_right, add-mul, arith}
 use Rattle.std.proofs.lemmas.List.{get_or-set_same}
 use Rattle.std.proofs.lemmas.List.Sums.{sum_by-set}
 use Rattle.std.proofs.lemmas.Bool.{cases_eq}
-use Rattle.graph.specs.Graphs.{source, target, Leads}
+use Rattle.graph.specs.Graphs.{source, target}
 use Rattle.graph.specs.Searching.{Star, Search, Seen, left}
 use Rattle.graph.proofs.Leading.{border_top}
 use Rattle.graph.proofs.Entering.{unseen_room, entered, enters_seen}

@@ -16,7 +16,7 @@
 --   left               a number that falls at each step
 --   Seen               what is seen stays seen
 --   Stamped            the nodes of the segments from a border on get a label
-use Rattle.std.specs.Prelude.{◌≡◌, ℕ, ◌+◌, ◌-◌, ◌*◌, ◌^◌, ◌<◌, ◌≤◌, cond, ◌⊎◌, List, length, sum, count_by, ◌≢◌, nat_eq, slice_index}
+use Rattle.std.specs.Prelude.{◌≡◌, ℕ, ◌+◌, ◌-◌, ◌*◌, ◌^◌, ◌<◌, ◌≤◌, ◌⊎◌, List, length, sum, count_by, ◌≢◌, nat_eq, slice_index}
 use Rattle.graph.specs.Graphs.{source, target, Leads, Inside}
 
 -- `link` is one more than the last edge below `bound` that leaves the node, or 0 where there is none

@@ -1,3 +1,5 @@
+#![tactic(auto)]
+
 ghost use Rattle.std.specs.Prelude.{◌≡◌, ◌+◌, ◌*◌, ◌^◌, ◌<◌, length, MatchResult};
 ghost use Rattle.graph.specs.Graphs.{Components};
 ghost use Rattle.graph.specs.Refusals.{Refused};

@@ -1,3 +1,5 @@
+#![tactic(auto)]
+
 use graph::{Edges, Pairs, components, words};
 use std::alloc::{AllocError, Global};
 use std::env;

@@ -1,3 +1,5 @@
+#![tactic(auto)]
+
 mod cautious;
 mod judge;
 mod plain;

@@ -11,7 +11,7 @@ use Rattle.rules.specs.Tree.Chain.{end, link}
 use Rattle.rules.specs.Kinds.{name_pattern}
 use Rattle.rules.specs.Names.{among}
 use Rattle.rules.specs.Counting.{Event, unheld}
-use Rattle.rules.specs.Tables.{NameRow, Counts, no_rows, look, writes}
+use Rattle.rules.specs.Tables.{NameRow, Counts, no_rows, look}
 use Rattle.rules.specs.Rings.{component, closed, discount}
 use Rattle.rules.specs.Removal.{Config, By, Place, place_inside, unused, never_read, can_drop_binding, entered, name_goes, all_go, Verdict, verdict, treat, declarator_names, takes, gives, taken, gave}
 use Rattle.rules.specs.Removal.Verdict.{stays, sweeps, empties, unlinks, restates, yields, unwraps}

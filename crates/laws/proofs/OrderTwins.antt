@@ -11,7 +11,6 @@ use Rattle.rules.specs.Tree.{Head, Chain, if◌then◌else◌, below, unnumbered
 use Rattle.rules.specs.Tree.Chain.{end, link}
 use Rattle.rules.specs.Kinds.{module_root, script_root, import_item, export_declaration, export_list, export_default, member, expression, statement, item}
 use Rattle.rules.specs.Grammar.{root}
-use Rattle.rules.specs.Grammar.Part.{one}
 use Rattle.rules.specs.Held.{Numbers, Apart, Formed}
 use Rattle.rules.specs.Removal.{By, at_root, treat}
 use Rattle.rules.specs.Law.{Shuffled, root_kind, WithoutAsm, Reordered, item_at}

@@ -23,7 +23,6 @@ use Rattle.rules.specs.Law.{In, begun_on, tree_of}
 use Rattle.rules.proofs.Sounds.{check_sound}
 use Rattle.laws.proofs.Basics.{elim_both, in_append}
 use Rattle.laws.proofs.KeepsFormed.{keeps_formed}
-use Rattle.laws.proofs.TablesFilled.{filled}
 use Rattle.laws.proofs.TablesPass.{counts, fill_tables_counts}
 use Rattle.laws.proofs.RunsNumbered.{Numbered, numbered_check, numbered_tables}
 

@@ -1,7 +1,7 @@
 -- The bound on passes that the definition of a repeat has ends no repeat.
 --
 --   BoundNeverEnds       no repeat is told refusal 0
-use Rattle.std.specs.Prelude.{◌≡◌, ℕ, List, ◌≢◌}
+use Rattle.std.specs.Prelude.{ℕ, List, ◌≢◌}
 use Rattle.rules.specs.Removal.{Config}
 use Rattle.rules.specs.Calls.{Handed, After, Call, Answer, calls}
 use Rattle.rules.specs.Calls.Answer.{repeat_answer}

@@ -1,10 +1,10 @@
 -- Names noted in memory: a name is found exactly if it was noted, and one more leaves those before it.
-use Rattle.std.proofs.Common.{◌≡◌, ℕ, zero, suc, ◌+◌, ◌*◌, ◌/◌, ◌<◌, ◌≤◌, min, Bool, true, false, not, ◌&&◌, ◌||◌, ltb, List, [], ◌∷◌, length, get_or, set, sym, refl, ap, ◌∙◌, ⊎_elim, add-one, arith, length-set}
+use Rattle.std.proofs.Common.{◌≡◌, ℕ, zero, suc, ◌+◌, ◌*◌, ◌/◌, ◌<◌, ◌≤◌, min, true, false, not, ◌&&◌, List, ◌∷◌, length, get_or, set, sym, refl, ap, ◌∙◌, ⊎_elim, add-one, arith, length-set}
 use Rattle.std.proofs.lemmas.List.{get_or-set_same, get_or-set_other}
 use Rattle.std.proofs.lemmas.Bool.{or_left, or_right, or_from, cases_eq, lt-ltb}
 use Rattle.rules.specs.Tree.{Name}
 use Rattle.rules.specs.Names.{same, among}
-use Rattle.marks.specs.Noting.{Noted, noted, noted_at, names_to, noted_names, is_new, note}
+use Rattle.marks.specs.Noting.{Noted, noted_at, names_to, noted_names, is_new, note}
 
 -- a name in one of the places is found
 pub found_at : (n : Name) (words : List ℕ) (count i : ℕ) → i < count → same n (noted_at words i) ≡ true → among n (names_to count words) ≡ true

@@ -1,3 +1,5 @@
+#![tactic(auto)]
+
 pub mod bound;
 pub mod declared;
 pub mod exported;

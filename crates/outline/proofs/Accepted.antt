@@ -1,6 +1,6 @@
 -- What is known of words that the check accepts: reading from the root comes to an end, not too deep, and reaches no more
 -- records than there are.
-use Rattle.std.proofs.Common.{◌≡◌, ℕ, ◌/◌, ◌≤◌, true, List, length, sym, refl, ap, ◌∙◌, subst, arith}
+use Rattle.std.proofs.Common.{◌≡◌, ℕ, ◌/◌, ◌≤◌, true, List, length, refl, ap, arith}
 use borrow.Author.Tests.{clash}
 use Rattle.rules.specs.Tree.{Chain, reached}
 use Rattle.rules.specs.Refusals.{Outcome}

@@ -1,4 +1,6 @@
 // A checked tree, its outline in walk order, and the names that it declares.
+#![tactic(auto)]
+
 mod declared;
 mod lines;
 mod tree;

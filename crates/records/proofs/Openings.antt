@@ -1,13 +1,12 @@
 -- The record that a link leads to. A link that does not stand is 0 where the chain from it ends; one that stands opens
 -- into its record and the chains of that record's links, which the record read there names.
-use Rattle.std.proofs.Common.{◌≡◌, ℕ, ◌<◌, ◌≤◌, true, false, List, Some, None, Option, sym, ap, subst, ⊎_elim, arith, MatchOption}
+use Rattle.std.proofs.Common.{◌≡◌, ℕ, false, List, Some, None, Option, ⊎_elim, arith, MatchOption}
 use Rattle.std.proofs.lemmas.Bool.{cases_eq, both_ways}
-use Rattle.rules.specs.Tree.Chain.{end, link}
+use Rattle.rules.specs.Tree.Chain.{end}
 use Rattle.rules.specs.Words.{stands, tree_of, Whole}
-use Rattle.rules.specs.Opening.{depth, siblings, Opens}
 use Rattle.rules.proofs.Reading.{tree_end, opens}
 use Rattle.rules.proofs.Sizes.{stands_positive}
-use Rattle.records.specs.Reads.{head_of, Reads}
+use Rattle.records.specs.Reads.{Reads}
 use Rattle.records.specs.Cursor.{Opened}
 use Rattle.records.specs.declared.record.Record.{Record}
 

@@ -1,3 +1,5 @@
+#![tactic(auto)]
+
 pub mod children;
 pub mod kind;
 pub mod record;

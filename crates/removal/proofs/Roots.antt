@@ -4,16 +4,15 @@
 --   root_sweeps                        the verdict on a root
 --   under_root                         the chain of its children
 --   entered_root, passed_root          what is left of a root that the rules enter, and of one that they do not
-use Rattle.std.proofs.Common.{◌≡◌, ℕ, ◌+◌, ◌-◌, ◌*◌, ◌/◌, ◌<◌, ◌≤◌, max, Bool, true, false, ◌||◌, eqb, List, [], length, get_or, sym, refl, ap, ◌∙◌, subst, inl, inr, ⊎_elim, arith}
+use Rattle.std.proofs.Common.{◌≡◌, ℕ, Bool, true, false, ◌||◌, eqb, List, [], get_or, sym, refl, ap, ◌∙◌, subst, inl, inr, ⊎_elim, arith}
 use Rattle.std.proofs.lemmas.Bool.{both_ways, or_cases, eqb-true}
-use Rattle.rules.specs.Tree.{Head, Chain, is_end, below, append}
+use Rattle.rules.specs.Tree.{Head, Chain, below, append}
 use Rattle.rules.specs.Tree.Chain.{end, link}
 use Rattle.rules.specs.Kinds.{module_root, script_root}
 use Rattle.rules.specs.Refusals.Outcome.{fine}
-use Rattle.rules.specs.Words.{word, next, Holds, tree_of, Whole}
+use Rattle.rules.specs.Words.{word, Holds, tree_of, Whole}
 use Rattle.rules.specs.Check.{check, most_nesting}
-use Rattle.rules.specs.Held.{Numbers, Apart, Tree}
-use Rattle.rules.specs.Opening.{depth}
+use Rattle.rules.specs.Held.{Numbers, Tree}
 use Rattle.rules.specs.Removal.{By, Place, Left, at_root, entered, place_inside, swept, verdict, done, treated, treat}
 use Rattle.rules.specs.Removal as book
 use Rattle.rules.specs.Removal.Verdict.{sweeps}
@@ -23,7 +22,7 @@ use Rattle.laws.proofs.Formed.{formed_one}
 use Rattle.laws.proofs.KeepsChecked.{checked_again}
 use Rattle.edit.specs.Slots.{owner, first_slot, Linked, Made}
 use Rattle.edit.proofs.Frames.{number_is, number_within, stands_same, head_same}
-use Rattle.edit.proofs.Moves.{again, then}
+use Rattle.edit.proofs.Moves.{then}
 use Rattle.verdicts.specs.Places.{entered_first, place_below}
 use Rattle.removal.specs.Treating.{Nested}
 use Rattle.removal.proofs.Treats.{treats}

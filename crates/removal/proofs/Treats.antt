@@ -7,7 +7,7 @@
 --   down                               the children
 --   half_at, half_asked, standing      the record halfway
 --   moved, passed_by, closed           a turn with a record that is entered; one with a record that is not; the end
-use Rattle.std.proofs.Common.{◌≡◌, ℕ, ◌+◌, ◌-◌, ◌<◌, ◌≤◌, max, Bool, true, false, not, ◌||◌, List, length, get_or, sym, refl, ap, ◌∙◌, subst, arith}
+use Rattle.std.proofs.Common.{◌≡◌, ℕ, ◌-◌, ◌<◌, ◌≤◌, Bool, true, false, not, ◌||◌, List, get_or, sym, refl, ap, ◌∙◌, subst, arith}
 use Rattle.rules.specs.Tree.{Head, Chain, is_end, below, alone, append}
 use Rattle.rules.specs.Tree.Chain.{end, link}
 use Rattle.rules.specs.Words.{tree_of, Whole}
@@ -16,8 +16,8 @@ use Rattle.rules.specs.Removal.{By, Place, Left, entered, place_inside, verdict,
 use Rattle.rules.specs.Removal as book
 use Rattle.rules.specs.Removal.Verdict.{stays, sweeps, empties, unlinks, restates, yields, unwraps}
 use Rattle.rules.proofs.Reading.{read_back}
-use Rattle.edit.specs.Slots.{first_slot, next_slot, Linked, Made, onto, slot_after, Step}
-use Rattle.edit.proofs.Moves.{Going, to_go, turn, again, then, same, number_at, positive_at, child_by, beneath_by, started, ended}
+use Rattle.edit.specs.Slots.{first_slot, next_slot, Linked, Made, onto, Step}
+use Rattle.edit.proofs.Moves.{Going, to_go, turn, again, then, same, number_at, positive_at, child_by, beneath_by, ended}
 use Rattle.verdicts.specs.Places.{entered_first, place_below}
 use Rattle.verdicts.specs.Choices.{verdict_of, choice}
 use Rattle.verdicts.specs.declared.verdict.Verdict.{Verdict}

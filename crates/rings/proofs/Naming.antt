@@ -1,9 +1,9 @@
 -- Names and their nodes: edges lead from one name to another exactly if they lead from node to node, so that two names share a
 -- component exactly if their nodes have one label. Names that have rows are told apart by their nodes.
-use Rattle.std.proofs.Common.{◌≡◌, ℕ, zero, suc, ◌+◌, ◌-◌, ◌<◌, ◌≤◌, Bool, true, false, ◌⊎◌, List, [], ◌∷◌, map, length, get_or, Some, sym, refl, ap, ◌∙◌, subst, inl, inr, ⊎_elim, arith}
+use Rattle.std.proofs.Common.{◌≡◌, ℕ, zero, suc, ◌<◌, true, List, [], ◌∷◌, length, get_or, Some, sym, refl, ap, ◌∙◌, subst, inl, inr, ⊎_elim, arith}
 use Rattle.std.proofs.lemmas.Bool.{eq-eqb}
 use Rattle.rules.specs.Tree.{Name}
-use Rattle.rules.specs.Names.{same, among}
+use Rattle.rules.specs.Names.{among}
 use Rattle.rules.specs.Tables.{NameRow, EdgeRow, row_number}
 use Rattle.rules.specs.Rings.{component}
 use Rattle.rules.specs.Rings.{Edge as NameEdge, Leads as NameLeads}

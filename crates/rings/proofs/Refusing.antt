@@ -1,13 +1,13 @@
 -- A graph that is refused is that of no count that fits the work memory; and which names keep their counts.
-use Rattle.std.proofs.Common.{◌≡◌, ℕ, ◌+◌, ◌-◌, ◌*◌, ◌^◌, ◌<◌, ◌≤◌, Bool, true, false, not, ◌&&◌, ◌⊎◌, List, length, sym, ap, ◌∙◌, inl, inr, ⊎_elim, arith}
+use Rattle.std.proofs.Common.{◌≡◌, ℕ, ◌+◌, ◌*◌, ◌^◌, ◌<◌, ◌≤◌, false, not, List, length, ap, ◌∙◌, ⊎_elim, arith}
 use Rattle.std.proofs.lemmas.Bool.{cond-false, and_left, and_right, not_from_true}
-use Rattle.rules.specs.Tables.{NameRow, Counts, names_width}
-use Rattle.rules.specs.Rings.{component, has_other, has_entry, led_into, closed, less, discount_row}
+use Rattle.rules.specs.Tables.{Counts, names_width}
+use Rattle.rules.specs.Rings.{component, has_other, has_entry, led_into, closed, less}
 use Rattle.tables.specs.Living.{used}
 use Rattle.tables.specs.Matching.{name_words}
 use Rattle.tables.proofs.Holding.{holds_used}
 use Rattle.graph.specs.Graphs.{source, target, Components}
-use Rattle.graph.specs.Refusals.{Stray, Refused}
+use Rattle.graph.specs.Refusals.{Refused}
 use Rattle.graph.specs.declared.fault.GraphFault.{GraphFault}
 use Rattle.graph.specs.declared.fault.GraphFault.TheVariants.{TooLarge, NoRoom, NoSuchNode}
 use Rattle.rings.specs.Ringed.{Ready}

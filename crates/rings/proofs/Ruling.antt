@@ -1,8 +1,8 @@
 -- A name stands in a closed ring exactly if its label is that of one: what the book says of the names of a ring, the labels say of nodes.
-use Rattle.std.proofs.Common.{◌≡◌, ℕ, zero, suc, ◌+◌, ◌-◌, ◌<◌, ◌≤◌, Bool, true, false, not, ◌&&◌, ◌||◌, ◌⊎◌, List, [], ◌∷◌, map, length, get_or, Some, None, Option, sym, refl, ap, ◌∙◌, subst, inl, inr, ⊎_elim, arith}
+use Rattle.std.proofs.Common.{◌≡◌, ℕ, zero, suc, ◌<◌, Bool, true, false, not, ◌&&◌, List, [], ◌∷◌, length, get_or, Some, sym, refl, ap, ◌∙◌, subst, ⊎_elim, arith}
 use Rattle.std.proofs.lemmas.List.{length-map}
 use Rattle.std.proofs.lemmas.Bool.{cond-true, cond-false, and_parts, and_from, and_cases, and_left, and_right, both_ways, or_cases, or_parts, or_from, or_left, or_right, cases_Bool, not-true, not-false, not_from_true, not_from_false}
-use Rattle.rules.specs.Tree.{Name, if◌then◌else◌}
+use Rattle.rules.specs.Tree.{Name}
 use Rattle.rules.specs.Names.{same, among}
 use Rattle.rules.specs.Tables.{NameRow, EdgeRow, Counts, some_row, row_of, row_number}
 use Rattle.rules.specs.Rings.{component, has_other, has_entry, led_into, closed}
@@ -10,10 +10,10 @@ use Rattle.rules.proofs.SameNames.{same_eq, same_refl}
 use Rattle.tables.specs.Living.{nth}
 use Rattle.tables.specs.Matching.{Present, Known}
 use Rattle.tables.proofs.Changing.{nth_below}
-use Rattle.graph.specs.Graphs.{source, target, Components}
+use Rattle.graph.specs.Graphs.{Components}
 use Rattle.rings.specs.Ringed.{Distinct}
 use Rattle.rings.specs.Closing.{node, pairs, Closed, ClosedByLabels}
-use Rattle.rings.proofs.Naming.{node_apart, node_within, RowOfEdge, edge_row, component_present, labels_component, component_labels}
+use Rattle.rings.proofs.Naming.{node_apart, node_within, edge_row, component_present, labels_component, component_labels}
 
 -- ROWS BY THEIR PLACE
 

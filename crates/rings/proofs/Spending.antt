@@ -1,25 +1,25 @@
 -- The words of names after one pass over the edges hold the book's discounted rows: row by row each edge that the labels and marks say
 -- to be within a closed ring is one that passes in the book.
-use Rattle.std.proofs.Common.{◌≡◌, ℕ, zero, suc, ◌+◌, ◌-◌, ◌<◌, ◌≤◌, Bool, true, false, not, ◌&&◌, eqb, ◌⊎◌, List, [], ◌∷◌, ◌++◌, map, length, get_or, take, Some, None, MatchBool, Option, sym, refl, ap, ◌∙◌, subst, inl, inr, ⊎_elim, arith}
+use Rattle.std.proofs.Common.{◌≡◌, ℕ, zero, suc, ◌+◌, ◌-◌, ◌≤◌, Bool, true, false, not, ◌&&◌, eqb, List, [], ◌∷◌, ◌++◌, length, get_or, take, Some, sym, refl, ap, ◌∙◌, subst, ⊎_elim, arith}
 use Rattle.std.proofs.lemmas.List.{ext_get_or, length-map, take_all}
 use Rattle.std.proofs.lemmas.Bool.{cases_Bool, both_ways, eq-eqb, ne_eqb, cond-true, cond-false}
 use Rattle.std.proofs.lemmas.Bool.Decides.{when_true, when_false}
 use Rattle.rules.specs.Tree.{Name, if◌then◌else◌}
 use Rattle.rules.specs.Names.{same, among}
-use Rattle.rules.specs.Tables.{NameRow, EdgeRow, Counts, names_width, edges_width, row_of, row_number, change, names_in_words, table, bit}
+use Rattle.rules.specs.Tables.{NameRow, EdgeRow, Counts, names_width, edges_width, row_of, row_number, change, bit}
 use Rattle.rules.specs.Rings.{component, closed, discount}
 use Rattle.rules.proofs.SameNames.{same_eq, same_refl}
-use Rattle.tables.specs.Living.{nth, change_nth, used, there}
+use Rattle.tables.specs.Living.{nth, change_nth}
 use Rattle.tables.specs.Held.{changed}
 use Rattle.tables.specs.Counts.{row_word, usage_word, assign_word, entry_word, less_counts}
-use Rattle.tables.specs.Matching.{NamesHeld, EdgesHeld, Present, Known, shrunk, names_of, edge_words}
+use Rattle.tables.specs.Matching.{NamesHeld, EdgesHeld, Present, shrunk, names_of, edge_words}
 use Rattle.tables.proofs.Holding.{holds_used}
 use Rattle.tables.proofs.Matched.{names_read, names_changed, names_change, names_words, edges_read}
 use Rattle.tables.proofs.Numbering.{number_positive, number_named, present_named}
 use Rattle.graph.specs.Graphs.{source, target, Components}
-use Rattle.rings.specs.Ringed.{Distinct, Small, passes, taken, lessened, Ready}
+use Rattle.rings.specs.Ringed.{passes, lessened, Ready}
 use Rattle.rings.specs.Closing.{node, pairs, Closed}
-use Rattle.rings.specs.Marking.{end_at, joins, Outside, entered_at, Quiet, Verdict, Ruled}
+use Rattle.rings.specs.Marking.{end_at, joins, Outside, entered_at, Quiet, Ruled}
 use Rattle.rings.specs.Spending.{in_one_ring, within_ring, spent, Discounted}
 use Rattle.rings.proofs.Taking.{lessened_none, lessened_more, lessened_all}
 use Rattle.rings.proofs.Naming.{node_apart, node_within, edge_row, labels_component, component_labels}

@@ -1,10 +1,10 @@
 -- One more edge of the pass over the edges, and that labels which are all used are no more than the nodes.
-use Rattle.std.proofs.Common.{◌≡◌, ℕ, zero, suc, ◌+◌, ◌-◌, ◌<◌, ◌≤◌, Bool, true, false, ◌⊎◌, List, [], ◌∷◌, length, get_or, sym, refl, ap, ◌∙◌, subst, inl, inr, ⊎_elim, arith}
+use Rattle.std.proofs.Common.{◌≡◌, ℕ, zero, suc, ◌+◌, ◌<◌, ◌≤◌, true, false, ◌⊎◌, List, [], ◌∷◌, length, get_or, sym, refl, ap, ◌∙◌, subst, inl, inr, ⊎_elim, arith}
 use Rattle.std.proofs.lemmas.Bool.{cond-true, cond-false}
 use Rattle.rules.specs.Tables.{names_width, edges_width}
 use Rattle.tables.specs.Held.{changed}
 use Rattle.tables.specs.Counts.{row_word, usage_word, assign_word, less_counts}
-use Rattle.graph.specs.Graphs.{source, target}
+use Rattle.graph.specs.Graphs.{target}
 use Rattle.rings.specs.Marking.{joins}
 use Rattle.rings.specs.Spending.{in_one_ring, within_ring, spent}
 

@@ -6,7 +6,7 @@
 --   entered_at             a node is an entry
 --   Quiet                  two nodes have a label, and none that has it is an entry or marked
 --   Verdict, Ruled         what a mark says of a label; of each label
-use Rattle.std.specs.Prelude.{◌≡◌, ℕ, ◌+◌, ◌-◌, ◌<◌, ◌≤◌, Bool, true, false, not, ◌&&◌, ◌⊎◌, List, map, length, MatchBool, ◌==◌, ◌≢◌, slice_index, slice_index_or}
+use Rattle.std.specs.Prelude.{◌≡◌, ℕ, ◌+◌, ◌-◌, ◌<◌, ◌≤◌, Bool, false, not, ◌&&◌, ◌⊎◌, List, map, length, MatchBool, ◌==◌, ◌≢◌, slice_index, slice_index_or}
 use Rattle.std.specs.List.{range_with_len}
 use Rattle.rules.specs.Tables.{names_width, edges_width}
 use Rattle.tables.specs.Living.{used, there}

@@ -5,7 +5,7 @@
 --   taken, lessened        a row, and all rows, less the weights of some edges that pass
 --   Ready                  words that hold the rows of a count
 --   DiscountedByEdges    one pass over the edges comes to the book's `discount`
-use Rattle.std.specs.Prelude.{◌≡◌, ℕ, ◌^◌, ◌<◌, Bool, true, false, not, ◌&&◌, List, [], ◌∷◌, ◌++◌, map}
+use Rattle.std.specs.Prelude.{◌≡◌, ℕ, ◌^◌, ◌<◌, Bool, false, not, ◌&&◌, List, [], ◌∷◌, ◌++◌, map}
 use Rattle.rules.specs.Tree.{if◌then◌else◌}
 use Rattle.rules.specs.Names.{same, among}
 use Rattle.rules.specs.Tables.{NameRow, EdgeRow, Counts, some_row, change, row_of}

@@ -1,2 +1,4 @@
+#![tactic(auto)]
+
 #[cfg(test)]
 mod tests;

@@ -1,12 +1,12 @@
 -- `leads` decides whether edges lead from one name to another, and `component` who shares a component.
 -- Sound: each look adds only the ends of edges that leave what is found. Complete: a look that adds nothing has shut the set, and one
 -- that adds something leaves fewer edges whose end is missing, of which there are at most as many as looks.
-use Rattle.std.proofs.Common.{◌≡◌, ℕ, zero, suc, ◌+◌, ◌<◌, ◌≤◌, Bool, true, false, cond, not, ◌&&◌, ◌||◌, ◌⊎◌, List, [], ◌∷◌, length, sym, refl, ap, ◌∙◌, subst, inl, inr, ⊎_elim, arith}
-use Rattle.std.proofs.lemmas.Bool.{cond_both, and_parts, and_from, both_ways, or_cases, or_parts, or_left, or_right, cases_Bool, not-true, not-false}
+use Rattle.std.proofs.Common.{◌≡◌, ℕ, ◌+◌, ◌<◌, ◌≤◌, Bool, true, false, cond, not, ◌&&◌, List, [], ◌∷◌, length, sym, refl, ap, ◌∙◌, subst, inl, inr, ⊎_elim, arith}
+use Rattle.std.proofs.lemmas.Bool.{cond_both, and_parts, and_from, both_ways, or_cases, or_parts, or_left, or_right, cases_Bool, not-true}
 use Rattle.rules.specs.Tree.{Name}
 use Rattle.rules.specs.Names.{same, among}
 use Rattle.rules.specs.Tables.{EdgeRow, some_row}
-use Rattle.rules.specs.Rings.{Edge, Leads, along, looks, reach, leads, leading_to, component}
+use Rattle.rules.specs.Rings.{Edge, Leads, along, looks, reach, leads, leading_to}
 use Rattle.rules.specs.Rings.Leads.{here, onward}
 use Rattle.rules.specs.Reaching.{LeadsTold, ComponentTold}
 use Rattle.rules.proofs.SameNames.{same_eq, same_refl}

@@ -8,13 +8,13 @@
 --   repeat_passes               passes until one changes nothing
 --   Call, Answer, call, calls, final      the calls on a shaker that was begun, one by one and in a list
 use Rattle.std.specs.Prelude.{ℕ, zero, suc, Bool, true, false, ◌&&◌, ◌||◌, List, [], ◌∷◌, ◌++◌, length, nat_le}
-use Rattle.rules.specs.Tree.{Chain, Name, if◌then◌else◌, reached}
+use Rattle.rules.specs.Tree.{Chain, Name, reached}
 use Rattle.rules.specs.Refusals.{Outcome, and_then, bad_lengths}
 use Rattle.rules.specs.Refusals.Outcome.{fine, refused}
 use Rattle.rules.specs.Check.{tree_fits, check}
 use Rattle.rules.specs.Names.{declared}
 use Rattle.rules.specs.Counting.{events_of}
-use Rattle.rules.specs.Tables.{NameRow, Counts, Room, room, declare, fill, no_rows, table, declared_width, names_width, edges_width, declared_in_words, names_in_words, edges_in_words, read_declared}
+use Rattle.rules.specs.Tables.{Counts, Room, room, declare, fill, no_rows, table, declared_width, names_width, edges_width, declared_in_words, names_in_words, edges_in_words, read_declared}
 use Rattle.rules.specs.Rings.{discount}
 use Rattle.rules.specs.Removal.{Config, By, Left, going_by, treat, at_root}
 

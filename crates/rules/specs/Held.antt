@@ -3,8 +3,8 @@
 --   Numbers, Apart      the record numbers of a chain; no record stands in it twice
 --   Level, Formed       nesting; the table of kinds
 --   Tree                all of these
-use Rattle.std.specs.Prelude.{◌≡◌, ℕ, suc, ◌≤◌, Bool, true, false, ◌⊎◌, List, length}
-use Rattle.rules.specs.Tree.{Head, Chain}
+use Rattle.std.specs.Prelude.{◌≡◌, ℕ, suc, ◌≤◌, true, false, ◌⊎◌, List, length}
+use Rattle.rules.specs.Tree.{Chain}
 use Rattle.rules.specs.Tree.Chain.{end, link}
 use Rattle.rules.specs.Grammar.{Way, words_fit, children_of, step, misplaced, may_end, root}
 use Rattle.rules.specs.Words.{next, Holds}

@@ -5,7 +5,7 @@
 --   known                                  there are no other kinds
 --   expression, statement, pattern, item   the sorts that the table of kinds speaks of
 --   declaration, class_member, for_head, arrow_body, compound_part, only      sorts of one place each
-use Rattle.std.specs.Prelude.{ℕ, Bool, true, false, ◌&&◌, ◌||◌, List, [], ◌∷◌, ◌==◌, nat_le}
+use Rattle.std.specs.Prelude.{ℕ, Bool, false, ◌&&◌, ◌||◌, List, [], ◌∷◌, ◌==◌, nat_le}
 
 -- roots and items
 abbrev pub module_root : ℕ

@@ -5,7 +5,7 @@
 --   ReferencesKept             a reference left to a name whose declaration was taken stands inside its closed ring
 --   RepeatsKept                a completed repeat makes few passes, and leaves no removable function unused
 use Rattle.std.specs.Prelude.{◌≡◌, ℕ, ◌≤◌, Bool, true, false, not, ◌&&◌, ◌||◌, ◌⊎◌, List, [], ◌∷◌, length, ◌==◌}
-use Rattle.rules.specs.Tree.{Head, Chain, Name, if◌then◌else◌, ◌is◌, name_of, is_end, below, alone, unnumbered}
+use Rattle.rules.specs.Tree.{Head, Chain, Name, if◌then◌else◌, ◌is◌, name_of, is_end, below, unnumbered}
 use Rattle.rules.specs.Tree.Chain.{end, link}
 use Rattle.rules.specs.Kinds.{fn_declaration, class_declaration, literal, asm_symbol}
 use Rattle.rules.specs.Refusals.{Outcome}
@@ -17,7 +17,7 @@ use Rattle.rules.specs.Names.{among}
 use Rattle.rules.specs.Rings.{component, closed}
 use Rattle.rules.specs.Judges.{Lawful}
 use Rattle.rules.specs.Removal.{Config, Place, at_root, place_inside, permitted, retained, entered, taken, gave}
-use Rattle.rules.specs.Calls.{State, Handed, Pass, After, Call, Answer, Repeated, start, begun, pass_by, calls, final, passes_made}
+use Rattle.rules.specs.Calls.{State, Handed, Pass, After, Call, Answer, start, begun, pass_by, calls, final, passes_made}
 use Rattle.rules.specs.Calls.Answer.{pass_answer, reset_answer, repeat_answer}
 use Rattle.rules.specs.Calls.Repeated.{repeated, stopped}
 

@@ -8,11 +8,11 @@ use Rattle.rules.specs.Tree.{Head, Chain}
 use Rattle.rules.specs.Tree.Chain.{end, link}
 use Rattle.rules.specs.Kinds.{script_root, block, expression_statement, fn_declaration, class_declaration, var_declaration, declarator, function, class_body, static_block, constructor, identifier, literal, plain_expression, call_expression, assignment, name_pattern, asm_symbol}
 use Rattle.rules.specs.Refusals.{Outcome}
-use Rattle.rules.specs.Refusals.Outcome.{fine, refused}
+use Rattle.rules.specs.Refusals.Outcome.{fine}
 use Rattle.rules.specs.Check.{check}
 use Rattle.rules.specs.Judges.{plain}
 use Rattle.rules.specs.Removal.{Config}
-use Rattle.rules.specs.Calls.{Handed, State, After, Repeated, repeat_passes, pass_once, begun, start}
+use Rattle.rules.specs.Calls.{State, After, Repeated, repeat_passes, pass_once, begun, start}
 use Rattle.rules.specs.Calls.Repeated.{repeated, stopped}
 
 -- the symbols of the scripts' names

@@ -1,5 +1,7 @@
 // Reads cases from standard input and prints what the check finds of each tree: its records and the names that it
 // declares, or why it is refused.
+#![tactic(auto)]
+
 mod show;
 
 use outline::CheckedTree;

@@ -1,6 +1,6 @@
 -- Nothing is left nested deeper than it was found: records stay, vanish or move up, and a value that moves under a plain expression
 -- moves from a Declarator.
-use Rattle.std.proofs.Common.{◌≡◌, ℕ, ◌+◌, ◌-◌, ◌≤◌, max, Bool, true, false, ◌&&◌, ◌||◌, refl, arith}
+use Rattle.std.proofs.Common.{◌≡◌, ◌+◌, ◌-◌, ◌≤◌, max, Bool, true, false, ◌&&◌, ◌||◌, arith}
 use Rattle.std.proofs.lemmas.Bool.{cond_both}
 use Rattle.rules.specs.Tree.{Head, Chain, ◌is◌, is_end, below, after, alone, append}
 use Rattle.rules.specs.Tree.Chain.{end, link}

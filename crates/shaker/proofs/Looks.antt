@@ -1,6 +1,6 @@
 -- The link 0, which the readers return where there is no record.
-use Rattle.std.proofs.Common.{◌≡◌, ℕ, ◌-◌, ◌≤◌, List, sym, refl, ap, ◌∙◌, arith}
-use Rattle.rules.specs.Tree.{Chain, below, after}
+use Rattle.std.proofs.Common.{◌≡◌, ℕ, ◌≤◌, List, sym, refl, ap, ◌∙◌, arith}
+use Rattle.rules.specs.Tree.{below, after}
 use Rattle.rules.specs.Tree.Chain.{end}
 use Rattle.rules.specs.Words.{tree_of, Whole}
 use Rattle.rules.specs.Opening.{depth}

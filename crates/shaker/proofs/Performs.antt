@@ -1,16 +1,15 @@
 -- What each verdict does: a record that stays, changed or not, is followed at its own slot; one that gives way is lifted.
-use Rattle.std.proofs.Common.{◌≡◌, ℕ, ◌<◌, ◌≤◌, Bool, true, false, List, length, get_or, sym, refl, ap, ◌∙◌, subst, inl, inr}
+use Rattle.std.proofs.Common.{◌≡◌, ℕ, List, get_or, sym, refl, ap, ◌∙◌, subst, inl, inr}
 use Rattle.rules.specs.Tree.{Head, Chain, below, after}
 use Rattle.rules.specs.Tree.Chain.{end, link}
 use Rattle.rules.specs.Words.{Holds}
-use Rattle.rules.specs.Held.{Numbers, Apart}
+use Rattle.rules.specs.Held.{Apart}
 use Rattle.rules.specs.Removal.{wrapped_object}
-use Rattle.edit.specs.Slots.{next_slot, Linked, Part, Made, onto, Lift, Step}
+use Rattle.edit.specs.Slots.{next_slot, Linked, Part, Made, Lift, Step}
 use Rattle.edit.proofs.Moves.{number_at, same}
 use Rattle.edit.proofs.Lifts.{lift_nothing, lift_second}
 use Rattle.shaker.specs.Verdicts.{left_of}
 use Rattle.shaker.specs.declared.perform.Verdict.{Verdict}
-use Rattle.shaker.specs.declared.perform.Verdict.TheVariants.{Stays, Sweeps, Empties, Unlinks, Restates, Yields, Unwraps}
 
 part_below : (c : Chain) → Apart c → Part (below c) c
 part_below end a = record { apart = tt; numbers = λ x k. k }

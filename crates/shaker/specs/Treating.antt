@@ -4,7 +4,7 @@
 --   place_below                    the place of the first record's children
 --   choice                         what the rules do with the first record of a chain
 --   Nested                         a slot links to a chain that nests at most so deep
-use Rattle.std.specs.Prelude.{◌≡◌, ℕ, ◌≤◌, Bool, false, not, ◌&&◌, ◌||◌, List, ◌==◌}
+use Rattle.std.specs.Prelude.{ℕ, ◌≤◌, Bool, false, not, ◌&&◌, ◌||◌, List, ◌==◌}
 use Rattle.rules.specs.Tree.{Head, Chain, ◌is◌, is_end}
 use Rattle.rules.specs.Tree.Chain.{end, link}
 use Rattle.rules.specs.Kinds.{statement, pattern, export_default, delete_expression, with_statement, for_statement, var_declaration}

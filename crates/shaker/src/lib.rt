@@ -1,3 +1,5 @@
+#![tactic(auto)]
+
 pub mod basis;
 pub mod look;
 pub mod perform;

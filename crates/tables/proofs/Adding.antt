@@ -1,14 +1,14 @@
 -- What an insertion comes to, on any words. Words are their rows and what is left behind them, and a row that is put there
 -- comes next; behind it stands whatever stood behind the first free row.
-use Rattle.std.proofs.Common.{◌≡◌, ℕ, zero, suc, ◌+◌, ◌-◌, ◌*◌, ◌/◌, ◌<◌, ◌≤◌, Bool, true, false, eqb, ltb, List, [], ◌∷◌, ◌++◌, length, get_or, take, drop, Some, None, Option, sym, refl, ap, ◌∙◌, subst, ⊎_elim, append_assoc, append-nil, suc-mul, zero-mul, div-mul-le_self, arith, length-drop}
+use Rattle.std.proofs.Common.{◌≡◌, ℕ, zero, suc, ◌+◌, ◌-◌, ◌*◌, ◌/◌, ◌<◌, ◌≤◌, Bool, true, false, eqb, List, [], ◌∷◌, ◌++◌, length, get_or, take, drop, Some, None, sym, ap, ◌∙◌, subst, ⊎_elim, append_assoc, append-nil, suc-mul, zero-mul, div-mul-le_self, arith, length-drop}
 use borrow.Rule.Slice.PartMut.{put_mid}
 use Rattle.std.specs.List.{flat_map}
-use Rattle.std.proofs.lemmas.List.{take_at, drop-drop, take-append-drop, length-take-le, get_or-take, map-id}
+use Rattle.std.proofs.lemmas.List.{take_at, drop-drop, take-append-drop, length-take-le, map-id}
 use Rattle.std.proofs.lemmas.Bool.{cond-true, cond-false, cases_Bool, eqb-false, ltb-true, both_ways, cases_eq}
 use Rattle.tables.specs.Living.{cut, before_zero, rows, used, free, behind, keyed, first_from, first_row, put_row, added}
 use Rattle.tables.specs.Held.{Proper, Holds}
 use Rattle.tables.specs.Inserting.{ComesAlive, FoundThere, OthersStay, HoldsMore}
-use Rattle.tables.proofs.Cutting.{rows_none, rows_end, rows_cons}
+use Rattle.tables.proofs.Cutting.{rows_end, rows_cons}
 use Rattle.tables.proofs.Holding.{joined_length, joined_rows, holds_used, holds_length, holds_more, holds_behind}
 
 -- rows up to the first that begins with 0 are proper, and the words begin with them

@@ -1,5 +1,5 @@
 -- A row that comes into a table or changes there leaves its length and the words past its last whole row, so zeroing leaves the same as before.
-use Rattle.std.proofs.Common.{◌≡◌, ℕ, suc, ◌+◌, ◌-◌, ◌*◌, ◌/◌, ◌<◌, ◌≤◌, Bool, true, false, ltb, leb, List, [], ◌∷◌, ◌++◌, length, get_or, take, drop, set, replicate, Some, None, Option, sym, refl, ap, ◌∙◌, ⊎_elim, mul-le-mul_right, suc-mul, div-mul-le_self, arith, length-append, length-drop, length-set, length-take-le, drop-drop}
+use Rattle.std.proofs.Common.{◌≡◌, ℕ, suc, ◌+◌, ◌-◌, ◌*◌, ◌/◌, ◌≤◌, true, false, ltb, leb, List, [], ◌++◌, length, take, drop, replicate, Some, None, Option, sym, refl, ap, ◌∙◌, ⊎_elim, mul-le-mul_right, suc-mul, div-mul-le_self, arith, length-append, length-drop, length-set, length-take-le, drop-drop}
 use lib.ListN.{length-replicate}
 use lib.Seq.{drop-append-add, drop-append_seam}
 use Rattle.std.proofs.lemmas.Bool.{cond-true, cond-false, cases_Bool, ltb-true, leb-true, and_parts}
@@ -7,7 +7,7 @@ use Rattle.rules.specs.Calls.{zeroed}
 use Rattle.tables.specs.Living.{used, free, there, start_of, put_row, added}
 use Rattle.tables.specs.Inserting.{placed}
 use Rattle.tables.specs.Held.{changed}
-use Rattle.tables.specs.Counts.{usage_word, assign_word, plus, more_counts, with_entry, with_counted}
+use Rattle.tables.specs.Counts.{more_counts, with_entry, with_counted}
 
 -- words of one length that are alike past the last whole row are zeroed alike
 zeroed_alike : (w : ℕ) (t u : List ℕ) → length u ≡ length t → drop (length t / w * w) u ≡ drop (length t / w * w) t → zeroed w u ≡ zeroed w t

@@ -1,6 +1,6 @@
 -- A table that holds rows: what its rows are, and that it holds one more after an insertion and none after zeroing.
 -- All follow from one form of its words: the rows, then whole rows of zeros, then less than a row.
-use Rattle.std.proofs.Common.{◌≡◌, ℕ, zero, suc, ◌+◌, ◌-◌, ◌*◌, ◌/◌, ◌<◌, ◌≤◌, List, [], ◌∷◌, ◌++◌, map, length, get_or, take, drop, replicate, sym, refl, ap, ◌∙◌, subst, inl, inr, append_assoc, append-nil, suc-mul, zero-mul, div-mul-le_self, arith, length-drop}
+use Rattle.std.proofs.Common.{◌≡◌, ℕ, zero, suc, ◌-◌, ◌*◌, ◌/◌, ◌<◌, List, [], ◌∷◌, ◌++◌, map, length, get_or, take, drop, replicate, sym, refl, ap, ◌∙◌, inl, inr, append_assoc, append-nil, suc-mul, zero-mul, div-mul-le_self, arith, length-drop}
 use native.Mathlib.Nat.{mul-sub, lt-div-mul-add}
 use Rattle.std.specs.List.{flat_map}
 use Rattle.std.proofs.lemmas.Nat.{mul-le}

@@ -1,6 +1,6 @@
 -- The three tables against the book. Each statement is one about tables that hold rows, at the words of the table's rows;
 -- what is proved here besides is that those words are the book's, and that keys of rows are the book's tests.
-use Rattle.std.proofs.Common.{◌≡◌, ℕ, zero, suc, ◌+◌, ◌-◌, ◌*◌, ◌/◌, ◌<◌, ◌≤◌, Bool, true, false, ◌&&◌, eqb, ltb, List, [], ◌∷◌, ◌++◌, map, length, get_or, is_some, Some, None, Ok, Err, Option, Result, sym, refl, ap, ◌∙◌, subst, inl, inr, ⊎_elim, arith}
+use Rattle.std.proofs.Common.{◌≡◌, ℕ, ◌+◌, ◌-◌, ◌*◌, ◌/◌, ◌<◌, ◌≤◌, Bool, true, false, ◌&&◌, eqb, ltb, List, [], ◌∷◌, ◌++◌, map, length, get_or, is_some, Some, None, Ok, Err, Option, Result, sym, refl, ap, ◌∙◌, subst, inl, ⊎_elim, arith}
 use Rattle.std.specs.List.{flat_map}
 use Rattle.std.proofs.lemmas.List.{length-map}
 use Rattle.std.proofs.lemmas.Bool.{cond-true, cond-false, cases_Bool, eqb-true, eqb-false, ltb-true, and_from}
@@ -8,17 +8,17 @@ use Rattle.rules.specs.Tree.{Name, if◌then◌else◌}
 use Rattle.rules.specs.Refusals.{declared_full, names_full, edges_full}
 use Rattle.rules.specs.Refusals.Outcome.{fine, refused}
 use Rattle.rules.specs.Names.{same}
-use Rattle.rules.specs.Tables.{NameRow, EdgeRow, some_row, need, change, fresh, look, row_of, edge_of, bit, row_number, declared_width, names_width, edges_width, declared_in_words, names_in_words, edges_in_words, table, read_declared}
+use Rattle.rules.specs.Tables.{NameRow, EdgeRow, some_row, need, change, fresh, row_of, edge_of, bit, row_number, declared_width, names_width, edges_width, declared_in_words, names_in_words, edges_in_words, table, read_declared}
 use Rattle.tables.specs.declared.fault.TableFault.{TableFault}
 use Rattle.tables.specs.declared.fault.TableFault.TheVariants.{Declared, Names, Edges}
 use Rattle.tables.specs.declared.key.Id.{Id}
 use Rattle.tables.specs.declared.key.Edge.{Edge}
-use Rattle.tables.specs.Living.{rows, used, free, first_row, first_from, added, put_row, nth, change_nth}
+use Rattle.tables.specs.Living.{rows, used, free, first_row, added, put_row, nth, change_nth}
 use Rattle.tables.specs.Faults.{number, place}
-use Rattle.tables.specs.Held.{Proper, Holds, changed}
+use Rattle.tables.specs.Held.{Proper, Holds}
 use Rattle.tables.specs.Inserting.{answered, placed}
 use Rattle.tables.specs.Counts.{more_counts, less_counts, with_entry, with_counted}
-use Rattle.tables.specs.Matching.{id_words, name_words, edge_words, DeclaredHeld, NamesHeld, EdgesHeld, Named, names_of, name_of_id, id_keyed, ends_keyed, numbered, Needed, RowNeeded, Present, Known, new_edge, ends_of, ends_words, grown, shrunk, entered, marked, heavier}
+use Rattle.tables.specs.Matching.{id_words, name_words, edge_words, DeclaredHeld, NamesHeld, EdgesHeld, Named, names_of, name_of_id, id_keyed, ends_keyed, Needed, RowNeeded, Present, Known, new_edge, ends_of, ends_words, grown, shrunk, entered, marked, heavier}
 use Rattle.tables.specs.Matching.{DeclaredWords, DeclaredRead, DeclaredBack, DeclaredNeeded, NamesWords, NamesFound, NamesNumbered, NamesNeeded, NamesRead, NamesChanged, NamesChange, EdgesWords, EdgesFound, EdgesNeeded, EdgesRead, EdgesChanged, EdgesChange, EdgesStay}
 use Rattle.tables.proofs.Cutting.{rows_none, rows_end, rows_cons}
 use Rattle.rules.proofs.SameNames.{same_refl}

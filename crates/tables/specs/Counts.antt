@@ -5,7 +5,7 @@
 --   plus                            addition that wraps at 2^32; subtraction is the book's `minus`
 --   more_counts, less_counts        a row's counts, added to and subtracted from
 --   with_entry, with_counted        a row's flags set
-use Rattle.std.specs.Prelude.{ℕ, ◌+◌, ◌%◌, ◌^◌, List, set, slice_index, slice_set}
+use Rattle.std.specs.Prelude.{ℕ, ◌+◌, ◌%◌, ◌^◌, List, slice_index, slice_set}
 use Rattle.rules.specs.Rings.{minus}
 use Rattle.tables.specs.Living.{start_of}
 

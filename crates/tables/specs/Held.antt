@@ -4,7 +4,7 @@
 --   Proper           rows that a table can hold
 --   Holds            a table's words are those of some rows
 --   changed          a table, the words of one row changed
-use Rattle.std.specs.Prelude.{◌≡◌, ℕ, ◌+◌, ◌-◌, ◌*◌, ◌/◌, ◌<◌, ◌≤◌, List, [], ◌∷◌, ◌++◌, length, take, drop, slice_index}
+use Rattle.std.specs.Prelude.{◌≡◌, ℕ, ◌/◌, ◌<◌, ◌≤◌, List, [], ◌∷◌, ◌++◌, length, take, drop, slice_index}
 use Rattle.std.specs.List.{flat_map}
 use Rattle.rules.specs.Tree.{if◌then◌else◌}
 use Rattle.rules.specs.Tables.{table}

@@ -12,7 +12,7 @@
 --   Declared-.., Names-.., Edges-..               statements about the three tables
 use Rattle.std.specs.Prelude.{◌≡◌, ℕ, ◌+◌, ◌-◌, ◌/◌, ◌<◌, ◌≤◌, Bool, true, false, ◌&&◌, List, [], ◌∷◌, ◌++◌, map, length, is_some, Some, None, Option, Result, MatchResult, ◌==◌, slice_index}
 use Rattle.rules.specs.Tree.{Name, if◌then◌else◌}
-use Rattle.rules.specs.Refusals.{Outcome, declared_full, names_full, edges_full}
+use Rattle.rules.specs.Refusals.{declared_full, names_full, edges_full}
 use Rattle.rules.specs.Refusals.Outcome.{fine, refused}
 use Rattle.rules.specs.Names.{same}
 use Rattle.rules.specs.Tables.{NameRow, EdgeRow, some_row, need, change, fresh, look, row_of, edge_of, bit, row_number, declared_width, names_width, edges_width, declared_in_words, names_in_words, edges_in_words, table, read_declared}

@@ -1,3 +1,5 @@
+#![tactic(auto)]
+
 ghost use Rattle.tally.specs.Tallies.{CountsFit, FilledTold};
 
 /// The events of a checked tree never bring a count to 2^32.

@@ -1,12 +1,9 @@
 -- Names and keywords: comparing bytes, and one word of ASCII. The tests of the code say of a byte at some place what the
 -- definitions compute byte by byte.
-use Rattle.std.proofs.Common.{◌≡◌, ℕ, zero, suc, ◌<◌, ◌≤◌, Bool, true, false, cond, ◌&&◌, eqb, ltb, List, [], ◌∷◌, length, get_or, Ok, Err, IsAscii, Decides, sym, refl, ap, ◌∙◌, arith, rules, le-ltb, lt-ltb, eq-eqb}
-use Rattle.std.proofs.lemmas.Slice.Eq.{bytes_eq-Decides, slice_eq-Decides}
-use Rattle.std.specs.Str.{bytes_eq}
+use Rattle.std.proofs.Common.{◌≡◌, ℕ, zero, suc, ◌≤◌, true, false, ◌&&◌, ltb, List, [], ◌∷◌, length, get_or, Ok, Err, IsAscii, sym, refl, ap, ◌∙◌, arith, le-ltb, lt-ltb, eq-eqb}
 use Rattle.text.specs.declared.fault.Problem.TheVariants.{NotText}
 use Rattle.text.specs.Split.{before}
 use Rattle.text.specs.Lines.{ascii, one_word, name_of}
-use Rattle.std.proofs.lemmas.Bool.Decides.{Decides-eqb}
 
 -- one word, with no space around it
 pub one_word_so : (rest word : List ℕ) → word ≡ before 32 rest → (length word ≡ 0 → ⊥) → length word ≡ length rest → one_word rest ≡ true

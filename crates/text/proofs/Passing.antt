@@ -1,6 +1,6 @@
 -- Passing from line to line. A reader that has no byte left has no line left; one that has bytes has a first line, and the
 -- lines of what stands behind its line feed.
-use Rattle.std.proofs.Common.{◌≡◌, ℕ, ◌+◌, ◌<◌, Bool, true, false, List, [], ◌∷◌, length, Some, None, Ok, Err, Result, sym, refl, ap, ◌∙◌, inl, inr, Bor, MatchResult}
+use Rattle.std.proofs.Common.{◌≡◌, ℕ, ◌+◌, ◌<◌, Bool, true, false, List, [], ◌∷◌, length, Some, None, Ok, Err, Result, sym, ap, ◌∙◌, inl, inr, Bor, MatchResult}
 use Rattle.std.proofs.lemmas.List.{nil_from_length}
 use Rattle.text.specs.declared.fault.Keyword.{Keyword}
 use Rattle.text.specs.declared.fault.Problem.{Problem}

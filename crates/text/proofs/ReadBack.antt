@@ -1,10 +1,9 @@
 -- Numbers that are written in decimal, apart by spaces, are read as they were. What is written of a number is digits alone,
 -- so that a cut at spaces finds it whole, and reading a digit undoes writing it.
-use Rattle.std.proofs.Common.{◌≡◌, ℕ, ◌+◌, ◌-◌, ◌*◌, ◌/◌, ◌%◌, ◌^◌, ◌<◌, ◌≤◌, Bool, true, false, cond, ◌&&◌, eqb, ltb, leb, List, [], ◌∷◌, ◌++◌, length, Ok, Err, decimal, Result, sym, refl, ap, ◌∙◌, div-add-mod', arith, lt-ltb, ne_eqb, le-leb, leb-true}
+use Rattle.std.proofs.Common.{◌≡◌, ℕ, ◌+◌, ◌-◌, ◌*◌, ◌/◌, ◌%◌, ◌^◌, ◌<◌, ◌≤◌, true, false, eqb, ltb, List, [], ◌∷◌, ◌++◌, length, Ok, Err, decimal, refl, ap, ◌∙◌, div-add-mod', arith, lt-ltb, ne_eqb, le-leb}
 use Rattle.std.proofs.lemmas.Fmt.{decimal_by_steps, decimal_nonempty}
-use Rattle.text.specs.declared.fault.Problem.{Problem}
 use Rattle.text.specs.Split.{split, onto_first, filled, words, and_then, each}
-use Rattle.text.specs.Numbers.{digit, with_digit, number_from, number, numbers, written, AllFit, ReadBack}
+use Rattle.text.specs.Numbers.{with_digit, number_from, number, written, ReadBack}
 
 -- every byte is a digit
 abbrev Digits : List ℕ → Type 0

@@ -1,4 +1,6 @@
 // The reader of cases: a tree, settings, table lengths and calls, written as lines of text.
+#![tactic(auto)]
+
 mod case;
 mod cases;
 mod fault;

@@ -1,4 +1,5 @@
 // The reader of cases on examples: a good text read whole, and every fault with its line.
+#![tactic(auto)]
 
 #[cfg(test)]
 mod tests {

@@ -2,15 +2,14 @@
 --
 --   row_read      for words that hold rows
 --   by_held       so a removal by the words is a removal by the rows that they hold
-use Rattle.std.proofs.Common.{◌≡◌, ℕ, ◌-◌, ◌<◌, Bool, true, false, not, ◌||◌, eqb, List, [], ◌∷◌, Some, None, Option, sym, refl, ap, ◌∙◌, subst, ⊎_elim}
+use Rattle.std.proofs.Common.{◌≡◌, ℕ, Bool, true, false, not, eqb, List, [], ◌∷◌, Some, None, sym, refl, ap, ◌∙◌, ⊎_elim}
 use Rattle.std.proofs.lemmas.Bool.{cond-true, cond-false, cases_Bool, or_parts}
 use Rattle.rules.specs.Tree.{Name}
 use Rattle.rules.specs.Names.{same}
 use Rattle.rules.specs.Tables.{NameRow, some_row, fresh, look, row_of, bit, row_number, names_width, read_declared}
-use Rattle.rules.specs.Removal.{Config, By, going_by}
+use Rattle.rules.specs.Removal.{Config, going_by}
 use Rattle.rules.proofs.SameNames.{same_eq}
-use Rattle.tables.specs.Living.{rows, first_row, nth}
-use Rattle.tables.specs.Counts.{usage_word, assign_word, entry_word, counted_word, row_word}
+use Rattle.tables.specs.Living.{rows, first_row}
 use Rattle.tables.specs.Matching.{NamesHeld, id_keyed, numbered, Present}
 use Rattle.tables.proofs.Matched.{names_found, names_numbered, names_read, names_change}
 use Rattle.verdicts.specs.Grounds.{row_at, row_in_words, by_words}

@@ -1,3 +1,5 @@
+#![tactic(auto)]
+
 pub mod basis;
 pub mod goes;
 pub mod look;

@@ -1,4 +1,4 @@
-use Rattle.std.proofs.Common.{◌≡◌, ℕ, ◌≤◌, length, refl, arith}
+use Rattle.std.proofs.Common.{◌≡◌, length, refl, arith}
 use Rattle.rules.specs.Tables.{names_width}
 use Rattle.tables.specs.Living.{used}
 use Rattle.rings.proofs.Refusing.{refused_not, too_large, too_small, discounted_subtracted}

@@ -1,6 +1,5 @@
 use Rattle.std.proofs.Common.{refl}
 use Rattle.rules.specs.Removal.{values}
-use Rattle.edit.proofs.Moves.{again}
 use Rattle.edit.proofs.Joins.{join_one, join_several}
 use Rattle.edit.proofs.kinds.join.Goals as goal
 

@@ -1,7 +1,6 @@
 use Rattle.std.proofs.Common.{refl}
-use Rattle.rules.specs.Tree.{Chain, below, after}
+use Rattle.rules.specs.Tree.{below, after}
 use Rattle.rules.specs.Removal.{values}
-use Rattle.edit.specs.Slots.{Linked}
 use Rattle.edit.proofs.Moves.{started, ended}
 use Rattle.edit.proofs.Lifts.{lift_second}
 use Rattle.edit.proofs.Turns.{some_at, gather_turn}

@@ -1,8 +1,6 @@
-use Rattle.rules.specs.Tree.{Chain}
 use Rattle.rules.specs.Tree.Chain.{end}
 use Rattle.rules.specs.Removal.{swept}
 use Rattle.std.proofs.Common.{refl}
-use Rattle.edit.specs.Slots.{Linked}
 use Rattle.edit.proofs.Moves.{started, ended}
 use Rattle.edit.proofs.Lifts.{lift_nothing}
 use Rattle.edit.proofs.Turns.{some_at, sweep_drops, sweep_keeps}

@@ -1,9 +1,9 @@
 use Rattle.std.proofs.Common.{refl}
-use Rattle.rules.specs.Tree.{below, after}
+use Rattle.rules.specs.Tree.{after}
 use Rattle.rules.specs.Tree.Chain.{end, link}
 use Rattle.rules.specs.Kinds.{empty_statement, expression_statement}
 use Rattle.rules.specs.Removal.{wrapped_object, swept, become, joined}
-use Rattle.verdicts.specs.declared.verdict.Verdict.TheVariants.{Stays, Sweeps, Empties, Unlinks, Restates, Yields, Unwraps}
+use Rattle.verdicts.specs.declared.verdict.Verdict.TheVariants.{Sweeps, Empties, Unlinks, Restates, Yields, Unwraps}
 use Rattle.removal.proofs.Performs.{to_nothing, to_value, to_object, stays_at, gives_way}
 use Rattle.removal.proofs.perform.perform.Goals as goal
 

@@ -1,8 +1,7 @@
-use Rattle.std.proofs.Common.{◌≡◌, refl, arith}
+use Rattle.std.proofs.Common.{◌≡◌, arith}
 use Rattle.rules.specs.Tree.{Chain, below}
 use Rattle.rules.specs.Removal.{treat}
 use Rattle.edit.specs.Slots.{Made}
-use Rattle.edit.proofs.Moves.{started}
 use Rattle.verdicts.specs.Places.{place_of}
 use Rattle.verdicts.specs.Grounds.{by_of}
 use Rattle.removal.specs.Treating.{Nested}

@@ -1,4 +1,3 @@
-use Rattle.std.proofs.Common.{sym, subst}
 use Rattle.rings.proofs.Spending.{spent_discounted}
 use Rattle.rings.proofs.discount.subtract_rings.Goals as goal
 

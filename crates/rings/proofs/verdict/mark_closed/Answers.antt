@@ -1,4 +1,4 @@
-use Rattle.std.proofs.Common.{◌≡◌, ◌-◌, ◌<◌, true, length, get_or, set, sym, ◌∙◌, subst, arith, length-set}
+use Rattle.std.proofs.Common.{◌-◌, length, get_or, set, sym, ◌∙◌, subst, arith, length-set}
 use Rattle.std.proofs.lemmas.Bool.{both_ways}
 use Rattle.rings.specs.Marking.{entered_at, Latest}
 use Rattle.rings.proofs.Following.{Followed, Calm, quiet_empty, quiet_single, quiet_all, ruled_more, ruled_again}

@@ -1,6 +1,5 @@
-use Rattle.std.proofs.Common.{◌≡◌, true, Ok, sym, ap, ◌∙◌, inr, false-eqb}
+use Rattle.std.proofs.Common.{Ok, sym, ap, ◌∙◌, inr, false-eqb}
 use Rattle.std.proofs.lemmas.Str.{IsUtf8-from_ascii}
-use Rattle.text.specs.Lines.{one_word}
 use Rattle.text.proofs.Names.{one_word_so, ascii_so, not_ascii_so, name_good, name_not_text}
 use Rattle.text.proofs.case.read_name.Goals as goal
 

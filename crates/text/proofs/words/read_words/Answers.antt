@@ -2,7 +2,6 @@ use Rattle.std.proofs.Common.{◌<◌, length, vec_items, inr, arith, true-eqb, 
 use Rattle.text.specs.Gives.{Gives}
 use Rattle.text.specs.Split.{words, each}
 use Rattle.text.proofs.Reading.{handed_on, sofar_none, sofar_more, sofar_stops, sofar_all}
-use Rattle.text.proofs.words.read_words.Given as given
 use Rattle.text.proofs.words.read_words.Goals as goal
 
 pub loop-rest-init : goal.loop-rest-init
