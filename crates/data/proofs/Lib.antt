@@ -1,2 +1,3 @@
 mod Tells
 mod Holders
+mod Counted
