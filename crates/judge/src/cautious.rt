@@ -1,8 +1,8 @@
 ghost use Rattle.std.specs.Prelude.{◌≡◌};
 ghost use Rattle.rules.specs.Judges.{cautious};
+ghost use Rattle.judge.specs.Numbers.{cautious_lawful};
 ghost use Rattle.judge.specs.Quiet.{quiet};
 ghost use Rattle.records.specs.KindWords.{kind_word};
-ghost use Rattle.std.proofs.Common.{rules};
 
 use crate::judge::Judge;
 use records::{Kind, Record};
@@ -14,7 +14,7 @@ pub struct Cautious;
 impl Judge for Cautious {
     ghost acts = { λ _ c. cautious c };
 
-    ghost lawful = { Prim.search rules };
+    ghost lawful = { λ _. cautious_lawful };
 
     fn may_act(&self, words: &[u32], link: u32, left: u32) -> bool {
         match Record::linked(words, link) {

@@ -1,3 +1,4 @@
+pub mod Keys
 pub mod Living
 pub mod Walking
 pub mod Held

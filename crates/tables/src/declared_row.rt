@@ -1,4 +1,4 @@
-ghost use Rattle.std.specs.Prelude.{◌≡◌, ℕ, ◌<◌, ◌≤◌, true, List, [], ◌∷◌, length, IfOk, slice_index};
+ghost use Rattle.std.specs.Prelude.{◌≡◌, ℕ, ◌<◌, ◌≤◌, true, List, [], ◌∷◌, length, IfOk, slice_index, refl};
 ghost use Rattle.rules.specs.Refusals.{declared_full};
 ghost use Rattle.rules.specs.Tree.{Name};
 ghost use Rattle.rules.specs.Names.{same};
@@ -7,7 +7,8 @@ ghost use Rattle.tables.specs.declared.fault.TableFault.TheVariants.{Declared as
 ghost use Rattle.tables.specs.Living.{rows, there, first_row};
 ghost use Rattle.tables.specs.Inserting.{answered, placed};
 ghost use Rattle.tables.specs.Matching.{id_words, name_of_id, id_keyed, DeclaredHeld, RowNeeded};
-ghost use Rattle.std.proofs.Common.{rules};
+ghost use Rattle.tables.specs.Keys.{both_same};
+ghost use Rattle.std.proofs.Math.Nat.{zero-lt-suc};
 
 use crate::fault::TableFault;
 use crate::key::Id;
@@ -30,11 +31,11 @@ impl Row for Declared {
 
     ghost full = { table-full };
 
-    ghost some = { Prim.search rules };
+    ghost some = { zero-lt-suc 1 };
 
-    ghost whole = { Prim.search rules };
+    ghost whole = { λ _. refl };
 
-    ghost reads = { Prim.search rules };
+    ghost reads = { λ k. both_same k.symbol k.mark };
 
     fn stride() -> usize {
         Self::WIDTH

@@ -1,4 +1,4 @@
-ghost use Rattle.std.specs.Prelude.{◌≡◌, ℕ, ◌≤◌, true, false, List, [], ◌∷◌, length, IfOk, MatchOption, slice_index};
+ghost use Rattle.std.specs.Prelude.{◌≡◌, ℕ, ◌≤◌, true, false, List, [], ◌∷◌, length, IfOk, MatchOption, slice_index, refl};
 ghost use Rattle.rules.specs.Refusals.{edges_full};
 ghost use Rattle.rules.specs.Tree.{Name};
 ghost use Rattle.rules.specs.Tables.{NameRow, EdgeRow, edge_of, row_number, edges_width};
@@ -8,7 +8,8 @@ ghost use Rattle.tables.specs.Inserting.{answered, placed};
 ghost use Rattle.tables.specs.Held.{changed};
 ghost use Rattle.tables.specs.Counts.{usage_word, assign_word, row_word, more_counts};
 ghost use Rattle.tables.specs.Matching.{edge_words, ends_words, ends_keyed, new_edge, Present, Known, EdgesHeld, RowNeeded};
-ghost use Rattle.std.proofs.Common.{rules};
+ghost use Rattle.tables.specs.Keys.{both_same};
+ghost use Rattle.std.proofs.Math.Nat.{zero-lt-suc};
 
 use crate::counts::{VarInfo, add_counts, counts_at};
 use crate::fault::TableFault;
@@ -32,11 +33,11 @@ impl Row for Edges {
 
     ghost full = { table-full };
 
-    ghost some = { Prim.search rules };
+    ghost some = { zero-lt-suc 3 };
 
-    ghost whole = { Prim.search rules };
+    ghost whole = { λ _. refl };
 
-    ghost reads = { Prim.search rules };
+    ghost reads = { λ k. both_same k.from k.to };
 
     fn stride() -> usize {
         Self::WIDTH

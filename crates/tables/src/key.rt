@@ -1,5 +1,5 @@
 ghost use Rattle.std.specs.Prelude.{◌≡◌, Bool, true, ◌&&◌, ◌==◌};
-ghost use Rattle.std.proofs.Common.{rules};
+ghost use Rattle.tables.specs.Keys.{both_same, both_turned, both_follow};
 
 /// Keys compared by an equivalence.
 pub trait LawfulEq {
@@ -25,11 +25,11 @@ pub struct Id {
 impl LawfulEq for Id {
     ghost same = { λ a b. (a.symbol == b.symbol) && a.mark == b.mark };
 
-    ghost reflexive = { Prim.search rules };
+    ghost reflexive = { λ x. both_same x.symbol x.mark };
 
-    ghost symmetric = { Prim.search rules };
+    ghost symmetric = { λ x y. both_turned x.symbol x.mark y.symbol y.mark };
 
-    ghost transitive = { Prim.search rules };
+    ghost transitive = { λ x y z. both_follow x.symbol x.mark y.symbol y.mark z.symbol z.mark };
 
     fn is_same(&self, other: &Id) -> bool {
         self.symbol == other.symbol && self.mark == other.mark
@@ -46,11 +46,11 @@ pub struct Edge {
 impl LawfulEq for Edge {
     ghost same = { λ a b. (a.from == b.from) && a.to == b.to };
 
-    ghost reflexive = { Prim.search rules };
+    ghost reflexive = { λ x. both_same x.from x.to };
 
-    ghost symmetric = { Prim.search rules };
+    ghost symmetric = { λ x y. both_turned x.from x.to y.from y.to };
 
-    ghost transitive = { Prim.search rules };
+    ghost transitive = { λ x y z. both_follow x.from x.to y.from y.to z.from z.to };
 
     fn is_same(&self, other: &Edge) -> bool {
         self.from == other.from && self.to == other.to
