@@ -1,9 +1,10 @@
 -- The code's walk enters the events that the book counts, in the book's order.
 -- What surrounds a place in the book is seen as the code holds it: of the scopes' paths, the names that hold a reference there, and whether the innermost is empty.
 -- What is found in a part of the tree is entered into a state; one part after another is entered one after another.
+use Rattle.std.specs.Prelude.{if◌then◌else◌}
 use Rattle.std.proofs.Common.{◌≡◌, Bool, true, false, ◌&&◌, ◌||◌, eqb, List, [], ◌∷◌, ◌++◌, length, sym, refl, ap, ◌∙◌, append_assoc, arith}
 use Rattle.std.proofs.lemmas.Bool.{ne_eqb}
-use Rattle.rules.specs.Tree.{Head, Chain, Name, if◌then◌else◌, ◌is◌, name_of, unnumbered_head}
+use Rattle.rules.specs.Tree.{Head, Chain, Name, ◌is◌, name_of, unnumbered_head}
 use Rattle.rules.specs.Tree.Chain.{end, link}
 use Rattle.rules.specs.Kinds.{fn_declaration, class_declaration, function, arrow, arguments_symbol}
 use Rattle.rules.specs.Names.{among, names_of, distinct, keep, bound, declared_below, exported}

@@ -1,8 +1,9 @@
 -- The code's walk is the book's count, entered: by induction over the chain, and for each record by its kind.
 -- Eight kinds do something before, after or around their children; for each of them the tests compute. Any other is walked through, whatever its sort.
+use Rattle.std.specs.Prelude.{if◌then◌else◌}
 use Rattle.std.proofs.Common.{◌≡◌, ℕ, Bool, true, false, ◌&&◌, ◌||◌, eqb, List, Ok, Err, Result, sym, refl, ap, ◌∙◌, subst, ⊎_elim, arith, MatchResult}
 use Rattle.std.proofs.lemmas.Bool.{cond-false, cases_Bool, eqb-true, or_from}
-use Rattle.rules.specs.Tree.{Head, Chain, if◌then◌else◌, ◌is◌, unnumbered_head}
+use Rattle.rules.specs.Tree.{Head, Chain, ◌is◌, unnumbered_head}
 use Rattle.rules.specs.Tree.Chain.{end, link}
 use Rattle.rules.specs.Kinds.{export_declaration, class_body, property_name, class_member, expression, pattern}
 use Rattle.rules.specs.Names.{exported}

@@ -1,7 +1,8 @@
 -- The declared table, filled name by name in words, is the book's.
 -- A name that has a row leaves the words as they are; another gets the first free row or is refused. Both sides go on alike, so they agree on any list of names.
+use Rattle.std.specs.Prelude.{if◌then◌else◌}
 use Rattle.std.proofs.Common.{◌≡◌, ℕ, ◌/◌, Bool, true, false, List, [], ◌∷◌, ◌++◌, length, Some, None, Ok, Err, Option, Result, sym, refl, subst, MatchResult}
-use Rattle.rules.specs.Tree.{Head, Name, if◌then◌else◌, name_of}
+use Rattle.rules.specs.Tree.{Head, Name, name_of}
 use Rattle.rules.specs.Names.{same}
 use Rattle.rules.specs.Refusals.{Outcome, and_then, declared_full}
 use Rattle.rules.specs.Refusals.Outcome.{fine, refused}

@@ -1,7 +1,8 @@
 -- Leaving a scope in its two steps, each of which marks or is passed over.
+use Rattle.std.specs.Prelude.{if◌then◌else◌}
 use Rattle.std.proofs.Common.{◌≡◌, Bool, true, false, ◌&&◌, [], ap, ◌∙◌}
 use Rattle.std.proofs.lemmas.Bool.{cond-true, cond-false}
-use Rattle.rules.specs.Tree.{Head, Chain, if◌then◌else◌, ◌is◌}
+use Rattle.rules.specs.Tree.{Head, Chain, ◌is◌}
 use Rattle.rules.specs.Kinds.{function}
 use Rattle.rules.specs.Names.{names_of, distinct, bound, declared_below}
 use Rattle.rules.specs.Counting.{marks}

@@ -2,7 +2,7 @@
 --
 --   told                              an answer of a table as the book's outcome
 --   declare_key, declare_words        the words of declared once they have a name
---   FilledDeclared, FullDeclared    what filling leaves, and what a full table leaves, as the book says
+--   FilledDeclared, FullDeclared      what filling leaves, and what a full table leaves, as the book says
 use Rattle.std.specs.Prelude.{◌≡◌, ℕ, ◌/◌, List, [], length, Ok, Err, Option, Result}
 use Rattle.rules.specs.Tree.{Head, Chain}
 use Rattle.rules.specs.Refusals.{Outcome}

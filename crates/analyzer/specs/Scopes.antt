@@ -4,8 +4,8 @@
 --   Here, here, held_with, here_inside           what surrounds a place, by the names that hold a reference there
 --   outermost_scope                              what surrounds the root
 --   no_notes, with_arguments, with_eval, outward what the innermost scope has noted
-use Rattle.std.specs.Prelude.{Bool, true, false, ◌&&◌, ◌||◌, List, [], ◌∷◌, ◌++◌, take, drop, Some, None, Option, ◌==◌}
-use Rattle.rules.specs.Tree.{Head, Name, if◌then◌else◌, ◌is◌, name_of}
+use Rattle.std.specs.Prelude.{Bool, true, false, ◌&&◌, ◌||◌, List, [], ◌∷◌, ◌++◌, take, drop, Some, None, Option, ◌==◌, if◌then◌else◌}
+use Rattle.rules.specs.Tree.{Head, Name, ◌is◌, name_of}
 use Rattle.rules.specs.Kinds.{fn_declaration, class_declaration, arrow, arguments_symbol}
 use Rattle.rules.specs.Counting.{opens, role_in}
 use Rattle.rules.specs.Counting as book

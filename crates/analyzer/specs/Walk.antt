@@ -10,8 +10,8 @@
 --   walk                                      a chain
 --   visited                                   a record, its children walked
 --   Roomy                                     the path has room for the nesting that is left
-use Rattle.std.specs.Prelude.{◌≡◌, ℕ, ◌+◌, ◌≤◌, Bool, true, false, ◌&&◌, ◌||◌, List, [], length, Result, MatchResult, ◌==◌}
-use Rattle.rules.specs.Tree.{Head, Chain, if◌then◌else◌, ◌is◌, name_of, unnumbered_head}
+use Rattle.std.specs.Prelude.{◌≡◌, ℕ, ◌+◌, ◌≤◌, Bool, true, false, ◌&&◌, ◌||◌, List, [], length, Result, MatchResult, ◌==◌, if◌then◌else◌}
+use Rattle.rules.specs.Tree.{Head, Chain, ◌is◌, name_of, unnumbered_head}
 use Rattle.rules.specs.Tree.Chain.{end, link}
 use Rattle.rules.specs.Kinds.{export_declaration, export_name, function, class_body, identifier, arrow, call_expression, name_pattern, property_name, expression, pattern, class_member}
 use Rattle.rules.specs.Names.{among, names_of, distinct, bound, declared_below}

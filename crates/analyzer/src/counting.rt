@@ -11,7 +11,7 @@ ghost use Rattle.data.specs.Events.{tables};
 ghost use Rattle.data.specs.Filling.{fill_words};
 ghost use Rattle.records.specs.KindWords.{kind_word};
 ghost use Rattle.records.specs.Reads.{head_of};
-ghost use Rattle.analyzer.specs.CountFaults.{number as number_of_lem, place as place_of};
+ghost use Rattle.analyzer.specs.CountFaults.{number as number_of, place as place_of};
 ghost use Rattle.analyzer.specs.Scopes.{here, here_inside};
 ghost use Rattle.analyzer.specs.Walk.{Roomy, Went, state, sort_of, visited, walk};
 
@@ -41,7 +41,7 @@ pub fn count(
     requires deep { depth (tree_of words.now 1) ≤ most_nesting }
     requires short { length names.old < 2 ^ 32 }
     requires room { 2 * reached (tree_of words.now 1) ≤ length seen.old }
-    ensures events { MatchResult result (λ _. fill_words (events_of (tree_of words.now 1)) (tables names.old edges.old) ≡ fine (tables names.new edges.new)) (λ e. fill_words (events_of (tree_of words.now 1)) (tables names.old edges.old) ≡ refused (number_of_lem e) (place_of e)) }
+    ensures events { MatchResult result (λ _. fill_words (events_of (tree_of words.now 1)) (tables names.old edges.old) ≡ fine (tables names.new edges.new)) (λ e. fill_words (events_of (tree_of words.now 1)) (tables names.old edges.old) ≡ refused (number_of e) (place_of e)) }
     ensures names_behind { zeroed names_width names.new ≡ zeroed names_width names.old }
     ensures edges_behind { zeroed edges_width edges.new ≡ zeroed edges_width edges.old }
 {

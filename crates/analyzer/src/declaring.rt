@@ -8,7 +8,7 @@ ghost use Rattle.rules.specs.Refusals.Outcome.{fine, refused};
 ghost use Rattle.rules.specs.Tables.{declared_width};
 ghost use Rattle.rules.specs.Words.{tree_of, Whole};
 ghost use Rattle.names.specs.Sinks.{each};
-ghost use Rattle.tables.specs.Faults.{number as number_of_lem, place as place_of};
+ghost use Rattle.tables.specs.Faults.{number as number_of, place as place_of};
 ghost use Rattle.analyzer.specs.Declaring.{declare_key, declare_words, FilledDeclared, FullDeclared};
 
 use names::{NameSink, declared_names};
@@ -40,7 +40,7 @@ impl<'t> NameSink for Declaring<'t> {
 
     ghost takes = { declare_words };
 
-    ghost number = { number_of_lem };
+    ghost number = { number_of };
 
     ghost place = { place_of };
 
@@ -58,7 +58,7 @@ impl<'t> NameSink for Declaring<'t> {
 
 /// Makes a name one of the declared: it is there, or gets the first free row. The record `at` bears it.
 fn declare(table: &mut [u32], id: Id, at: u32) -> Result<(), TableFault>
-    ensures names { MatchResult result (λ _. declare_key id at table.old ≡ fine table.new) (λ e. declare_key id at table.old ≡ refused (number_of_lem e) (place_of e)) }
+    ensures names { MatchResult result (λ _. declare_key id at table.old ≡ fine table.new) (λ e. declare_key id at table.old ≡ refused (number_of e) (place_of e)) }
     ensures behind { zeroed declared_width table.new ≡ zeroed declared_width table.old }
 {
     Declared::need(table, id, at)?;
@@ -69,7 +69,7 @@ fn declare(table: &mut [u32], id: Id, at: u32) -> Result<(), TableFault>
 fn collect_decls(words: &[u32], first: u32, left: u32, table: &mut [u32]) -> Result<(), TableFault>
     requires whole { Whole words.now first }
     requires deep { depth (tree_of words.now first) ≤ left }
-    ensures names { MatchResult result (λ _. each declare_words (declared (tree_of words.now first)) table.old ≡ fine table.new) (λ e. each declare_words (declared (tree_of words.now first)) table.old ≡ refused (number_of_lem e) (place_of e)) }
+    ensures names { MatchResult result (λ _. each declare_words (declared (tree_of words.now first)) table.old ≡ fine table.new) (λ e. each declare_words (declared (tree_of words.now first)) table.old ≡ refused (number_of e) (place_of e)) }
     ensures behind { zeroed declared_width table.new ≡ zeroed declared_width table.old }
 {
     let mut declaring = Declaring { table };
@@ -81,7 +81,7 @@ pub fn fill_declared(words: &[u32], table: &mut [u32]) -> Result<(), TableFault>
     requires tree { Tree words.now (tree_of words.now 1) }
     requires whole { Whole words.now 1 }
     requires deep { depth (tree_of words.now 1) ≤ most_nesting }
-    ensures { MatchResult result (λ _. FilledDeclared (tree_of words.now 1) table.old table.new) (λ e. FullDeclared (tree_of words.now 1) (number_of_lem e) (place_of e) table.old table.new) }
+    ensures { MatchResult result (λ _. FilledDeclared (tree_of words.now 1) table.old table.new) (λ e. FullDeclared (tree_of words.now 1) (number_of e) (place_of e) table.old table.new) }
 {
     if has_row::<Declared>(table) {
         return Ok(());

@@ -7,7 +7,7 @@ ghost use Rattle.rules.specs.Tree.{reached};
 ghost use Rattle.rules.specs.Words.{tree_of, Whole};
 ghost use Rattle.data.specs.Events.{tables};
 ghost use Rattle.records.specs.Reads.{head_of};
-ghost use Rattle.analyzer.specs.CountFaults.{number as number_of_lem, place as place_of};
+ghost use Rattle.analyzer.specs.CountFaults.{number as number_of, place as place_of};
 ghost use Rattle.analyzer.specs.Walk.{leaving};
 
 use crate::fault::CountFault;
@@ -30,7 +30,7 @@ pub(crate) fn leave_scope(
     requires deep { depth (tree_of words.now node.first) ≤ left }
     requires short { length names.old < 2 ^ 32 }
     requires room { 2 * reached (tree_of words.now node.first) ≤ length seen.old }
-    ensures marks { MatchResult result (λ _. ((edges : List ℕ) → leaving (head_of n node) (tree_of words.now node.first) found (tables names.old edges) ≡ fine (tables names.new edges))) (λ e. ((edges : List ℕ) → leaving (head_of n node) (tree_of words.now node.first) found (tables names.old edges) ≡ refused (number_of_lem e) (place_of e))) }
+    ensures marks { MatchResult result (λ _. ((edges : List ℕ) → leaving (head_of n node) (tree_of words.now node.first) found (tables names.old edges) ≡ fine (tables names.new edges))) (λ e. ((edges : List ℕ) → leaving (head_of n node) (tree_of words.now node.first) found (tables names.old edges) ≡ refused (number_of e) (place_of e))) }
     ensures behind { zeroed names_width names.new ≡ zeroed names_width names.old }
 {
     if found.found_direct_eval {

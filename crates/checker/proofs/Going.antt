@@ -5,7 +5,7 @@
 --   begin, go                    it holds at the first link, and after each record
 --   go_untaken, go_below         a record, or what is under it, is refused: so is the whole
 --   go_ended, go_short           the chain ends
---   one-less                     each record taken sets a mark
+--   one_less                     each record taken sets a mark
 use Rattle.std.proofs.Common.{◌≡◌, ℕ, suc, ◌+◌, ◌-◌, ◌<◌, ◌≤◌, Bool, true, false, eqb, List, ◌∷◌, length, get_or, set, sym, ap, ◌∙◌, arith}
 use Rattle.std.proofs.lemmas.Bool.{eq-eqb, ne_eqb}
 use Rattle.rules.specs.Tree.{Chain, reached}

@@ -2,9 +2,9 @@
 --
 --   mark_of               the mark of a record says whether it was reached
 --   marks_none, marks_set, unmarked_none, unmarked_set      no mark set; one more
+use Rattle.std.specs.Prelude.{if◌then◌else◌}
 use Rattle.std.proofs.Common.{◌≡◌, ℕ, zero, suc, ◌-◌, ◌<◌, ◌≤◌, Bool, true, false, ◌||◌, eqb, List, [], ◌∷◌, length, get_or, set, replicate, sym, refl, ap, ◌∙◌, subst, ⊎_elim, arith, get_or-set_other, get_or-set_same}
 use Rattle.std.proofs.lemmas.Bool.{cases_eq, eq-eqb, ne_eqb, or_left}
-use Rattle.rules.specs.Tree.{if◌then◌else◌}
 use Rattle.rules.specs.Kinds.{member}
 use Rattle.checker.specs.Walking.{Marks, unmarked}
 

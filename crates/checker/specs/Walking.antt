@@ -3,8 +3,8 @@
 --   Marks, unmarked      marks that say which records were reached; how many are not set
 --   Taken, Untaken       a record is taken, or refused
 --   Walked               a chain was walked to its end
-use Rattle.std.specs.Prelude.{◌≡◌, ℕ, suc, ◌+◌, ◌-◌, ◌≤◌, Bool, false, List, [], ◌∷◌, get_or, slice_index_or}
-use Rattle.rules.specs.Tree.{if◌then◌else◌, reached}
+use Rattle.std.specs.Prelude.{◌≡◌, ℕ, suc, ◌+◌, ◌-◌, ◌≤◌, Bool, false, List, [], ◌∷◌, get_or, slice_index_or, if◌then◌else◌}
+use Rattle.rules.specs.Tree.{reached}
 use Rattle.rules.specs.Kinds.{member}
 use Rattle.rules.specs.Grammar.{Way}
 use Rattle.rules.specs.Refusals.Outcome.{fine, refused}

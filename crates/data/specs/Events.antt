@@ -6,8 +6,7 @@
 --   Tables, tables                    the words of names and edges
 --   joined, joined_all                the edge from a holder to a name; those from all holders
 --   counted, entered                  the name's own counts; the whole reference
-use Rattle.std.specs.Prelude.{ℕ, Bool, List, [], ◌∷◌, Ok, Err, Result}
-use Rattle.rules.specs.Tree.{if◌then◌else◌}
+use Rattle.std.specs.Prelude.{ℕ, Bool, List, [], ◌∷◌, Ok, Err, Result, if◌then◌else◌}
 use Rattle.rules.specs.Refusals.{Outcome, and_then}
 use Rattle.rules.specs.Refusals.Outcome.{fine, refused}
 use Rattle.rules.specs.Tables.{names_width, edges_width, fresh}

@@ -2,7 +2,7 @@ ghost use Rattle.std.specs.Prelude.{◌≡◌, ◌^◌, ◌<◌, length, MatchRe
 ghost use Rattle.rules.specs.Calls.{zeroed};
 ghost use Rattle.rules.specs.Refusals.Outcome.{fine, refused};
 ghost use Rattle.rules.specs.Tables.{names_width, edges_width};
-ghost use Rattle.tables.specs.Faults.{number as number_of_lem, place as place_of};
+ghost use Rattle.tables.specs.Faults.{number as number_of, place as place_of};
 ghost use Rattle.data.specs.Events.{placed_at, tables, name_placed, edge_placed, joined, counted, entered};
 
 use tables::{Edge, Edges, Id, Names, TableFault, VarInfo};
@@ -10,7 +10,7 @@ use tables::{Edge, Edges, Id, Names, TableFault, VarInfo};
 /// The row of a name, which gets the first free one if it has none. The record `at` needs it.
 fn name_row(names: &mut [u32], id: Id, at: u32) -> Result<u32, TableFault>
     requires short { length names.old < 2 ^ 32 }
-    ensures is { MatchResult result (λ n. name_placed id at names.old ≡ fine (placed_at n names.new)) (λ e. name_placed id at names.old ≡ refused (number_of_lem e) (place_of e)) }
+    ensures is { MatchResult result (λ n. name_placed id at names.old ≡ fine (placed_at n names.new)) (λ e. name_placed id at names.old ≡ refused (number_of e) (place_of e)) }
     ensures names_behind { zeroed names_width names.new ≡ zeroed names_width names.old }
 {
     let row = Names::need(names, id, at)?;
@@ -19,7 +19,7 @@ fn name_row(names: &mut [u32], id: Id, at: u32) -> Result<u32, TableFault>
 
 /// The row of an edge, which gets the first free one if it has none. The record `at` needs it.
 fn edge_row(edges: &mut [u32], edge: Edge, at: u32) -> Result<usize, TableFault>
-    ensures is { MatchResult result (λ n. edge_placed edge at edges.old ≡ fine (placed_at n edges.new)) (λ e. edge_placed edge at edges.old ≡ refused (number_of_lem e) (place_of e)) }
+    ensures is { MatchResult result (λ n. edge_placed edge at edges.old ≡ fine (placed_at n edges.new)) (λ e. edge_placed edge at edges.old ≡ refused (number_of e) (place_of e)) }
     ensures edges_behind { zeroed edges_width edges.new ≡ zeroed edges_width edges.old }
 {
     Edges::need(edges, edge, at)
@@ -35,7 +35,7 @@ fn add_dep_edge(
     at: u32,
 ) -> Result<(), TableFault>
     requires short { length names.old < 2 ^ 32 }
-    ensures is { MatchResult result (λ _. joined to by.usage by.assign at from (tables names.old edges.old) ≡ fine (tables names.new edges.new)) (λ e. joined to by.usage by.assign at from (tables names.old edges.old) ≡ refused (number_of_lem e) (place_of e)) }
+    ensures is { MatchResult result (λ _. joined to by.usage by.assign at from (tables names.old edges.old) ≡ fine (tables names.new edges.new)) (λ e. joined to by.usage by.assign at from (tables names.old edges.old) ≡ refused (number_of e) (place_of e)) }
     ensures names_behind { zeroed names_width names.new ≡ zeroed names_width names.old }
     ensures edges_behind { zeroed edges_width edges.new ≡ zeroed edges_width edges.old }
 {
@@ -62,7 +62,7 @@ pub fn count_name(
     at: u32,
 ) -> Result<(), TableFault>
     requires short { length names.old < 2 ^ 32 }
-    ensures is { MatchResult result (λ _. counted id by.usage by.assign entry at names.old ≡ fine names.new) (λ e. counted id by.usage by.assign entry at names.old ≡ refused (number_of_lem e) (place_of e)) }
+    ensures is { MatchResult result (λ _. counted id by.usage by.assign entry at names.old ≡ fine names.new) (λ e. counted id by.usage by.assign entry at names.old ≡ refused (number_of e) (place_of e)) }
     ensures names_behind { zeroed names_width names.new ≡ zeroed names_width names.old }
 {
     let row = name_row(names, id, at)? as usize;
@@ -85,7 +85,7 @@ pub fn add(
     at: u32,
 ) -> Result<(), TableFault>
     requires short { length names.old < 2 ^ 32 }
-    ensures is { MatchResult result (λ _. entered id by.usage by.assign entry at holders.now (tables names.old edges.old) ≡ fine (tables names.new edges.new)) (λ e. entered id by.usage by.assign entry at holders.now (tables names.old edges.old) ≡ refused (number_of_lem e) (place_of e)) }
+    ensures is { MatchResult result (λ _. entered id by.usage by.assign entry at holders.now (tables names.old edges.old) ≡ fine (tables names.new edges.new)) (λ e. entered id by.usage by.assign entry at holders.now (tables names.old edges.old) ≡ refused (number_of e) (place_of e)) }
     ensures names_behind { zeroed names_width names.new ≡ zeroed names_width names.old }
     ensures edges_behind { zeroed edges_width edges.new ≡ zeroed edges_width edges.old }
 {

@@ -3,7 +3,7 @@
 --
 --   HeldAlike                            declared names held alike
 --   rows_declared_alike, counts_sizes, fit_alike      the rows of twins, and whether they fit
---   read_after, read_full                 what is read back after a pass, and after one that was refused
+--   read_after, read_full                what is read back after a pass, and after one that was refused
 use Rattle.std.proofs.Common.{◌≡◌, ℕ, ◌&&◌, leb, List, [], ◌∷◌, length, refl, ap, ap₂, arith}
 use Rattle.rules.specs.Tree.{Chain, Name}
 use Rattle.rules.specs.Grammar.{root}

@@ -2,7 +2,7 @@
 -- Rows and declared names enter as functions, so tables that tell the same give equal removals by a path.
 --
 --   LeftAlike, removed_alike      what is left of twins
---   by_alike                       tables that tell the same
+--   by_alike                      tables that tell the same
 use Rattle.std.proofs.Common.{◌≡◌, ℕ, Bool, false, ◌||◌, sym, ap, ◌∙◌, subst₂}
 use Rattle.rules.specs.Tree.{Head, Chain, Name, below, unnumbered}
 use Rattle.rules.specs.Tree.Chain.{end, link}

@@ -4,10 +4,11 @@
 --   leads_alike, component_alike      edges lead alike; components have the same names
 --   closed_alike, discount_alike      closed rings; a discounted row
 --   rows_alike                        a name's row after the rings are discounted
+use Rattle.std.specs.Prelude.{if◌then◌else◌}
 use Rattle.std.proofs.Common.{◌≡◌, Bool, true, false, not, ◌&&◌, List, [], ◌∷◌, sym, ap, ◌∙◌, subst, ap₂, inl, inr}
 use mathlib.Core.Path.{fun_ext}
 use Rattle.std.proofs.lemmas.Bool.{false≢true, and_from, or_cases, or_left, or_right, not-true, not_from_false}
-use Rattle.rules.specs.Tree.{Name, if◌then◌else◌}
+use Rattle.rules.specs.Tree.{Name}
 use Rattle.rules.specs.Names.{same, among}
 use Rattle.rules.specs.Tables.{NameRow, EdgeRow, Counts, fresh, look}
 use Rattle.rules.specs.Rings.{Edge, Leads, component, has_other, closed, minus, less, discount_row, discount}

@@ -17,7 +17,7 @@ use Rattle.rules.specs.Removal.{Config}
 use Rattle.rules.specs.Calls.{State, Handed, handed_fit, zeroed, cleared, Pass, After, pass_once, passes_from, reached_by, repeat_ended, Call, Answer, call_fitting, unfit_answer, call, calls, final}
 use Rattle.rules.specs.Calls.Call.{pass, reset, repeat}
 use Rattle.rules.specs.Calls.Answer.{pass_answer, repeat_answer}
-use Rattle.rules.specs.Law.{begun_on, tree_of, Reordered, BegunAlike, told, Telling, tellings, SameLost}
+use Rattle.rules.specs.Law.{begun_on, outcome_tree, Reordered, BegunAlike, told, Telling, tellings, SameLost}
 use Rattle.laws.specs.Parts.{OrderLaw}
 use Rattle.laws.proofs.Runs.{turn}
 use Rattle.laws.proofs.OrderCount.{reached_turned}
@@ -125,8 +125,8 @@ begun_holds words = declared_read_back [] words tt
 
 start_even : (words others : Handed) (c d : Chain) → BegunAlike words others → Reordered words.tree others.tree c d → Even (begun_on words) (begun_on others)
 start_even words others c d b r =
-    let p = ap tree_of r.one in
-    let q = ap tree_of r.other in
+    let p = ap outcome_tree r.one in
+    let q = ap outcome_tree r.other in
     record {
       found = r.one ∙ ap (λ (x : Chain). fine x) (sym p);
       found_too = r.other ∙ ap (λ (x : Chain). fine x) (sym q);
@@ -146,5 +146,5 @@ order_law k lawful cs words others c d b r =
     let e = start_even words others c d b r in
     record {
       answers = calls_even k lawful cs s u e;
-      lost = subst₂ (λ (x y : Chain). SameLost x y (tree (final k cs s)) (tree (final k cs u))) (ap tree_of r.one) (ap tree_of r.other) (final_even k lawful cs s u e);
+      lost = subst₂ (λ (x y : Chain). SameLost x y (tree (final k cs s)) (tree (final k cs u))) (ap outcome_tree r.one) (ap outcome_tree r.other) (final_even k lawful cs s u e);
     }

@@ -5,7 +5,7 @@
 --   list_of, listed, list_link                   any number of a sort: the first record and the others; one more record
 --   formed_one, one_link                         one of a sort, then a way: the first record and the others; such a record
 --   maybe_taken, formed_maybe, formed_none       at most one of a sort; none
---   RecordFormed, FirstFormed, below_formed    a record as the table has it; the first of a chain, and of its children
+--   RecordFormed, FirstFormed, below_formed      a record as the table has it; the first of a chain, and of its children
 --   callee_function, declarator_value, assigned_value      the children of a Function expression, a Declarator and an Assignment
 use Rattle.std.proofs.Common.{◌≡◌, ℕ, Bool, true, false, ◌⊎◌, List, [], ◌∷◌, sym, refl, subst, inl, inr, ⊎_elim}
 use Rattle.std.proofs.lemmas.Bool.{both_ways, cases_Bool, eqb-true, eqb-false}

@@ -3,10 +3,11 @@
 -- as counted, and would not be free; in one, each holder has its edge, and without a holder the name would be an entry.
 --
 --   HeldInRing, unused_within, unread_within      the references to a free name
---   taken_unused, gave_unread                       the names taken and given
+--   taken_unused, gave_unread                     the names taken and given
+use Rattle.std.specs.Prelude.{if◌then◌else◌}
 use Rattle.std.proofs.Common.{◌≡◌, ◌≤◌, Bool, true, false, not, ◌&&◌, ◌||◌, eqb, List, [], ◌∷◌, ◌++◌, sym, refl, ◌∙◌, subst, ⊎_elim, arith}
 use Rattle.std.proofs.lemmas.Bool.{and_parts, both_ways, or_cases, or_left, or_right, eqb-true, cases_Bool, not-true}
-use Rattle.rules.specs.Tree.{Head, Chain, Name, if◌then◌else◌, flagged, is_end, first_is, first_name}
+use Rattle.rules.specs.Tree.{Head, Chain, Name, flagged, is_end, first_is, first_name}
 use Rattle.rules.specs.Tree.Chain.{end, link}
 use Rattle.rules.specs.Kinds.{name_pattern}
 use Rattle.rules.specs.Names.{among}

@@ -4,7 +4,7 @@
 --
 --   declarator_left                what is left of a Declarator
 --   exported_filled                of exported Declarators one is left
---   FirstKept, first_kept         the first one that is left was not to go
+--   FirstKept, first_kept          the first one that is left was not to go
 --   values_formed, joined_formed   the values are expressions, and they join to one
 --   kept_valued, restated_formed   one that stays although its name can go has a value; what a Var becomes has its child
 use Rattle.std.proofs.Common.{◌≡◌, Bool, true, false, not, eqb, List, [], ◌∷◌, sym, refl, ◌∙◌, subst, ⊎_elim, arith}

@@ -6,9 +6,9 @@
 --   fair_step                             the ways on are fair
 --   fair_swap                             the ways on after a kind are among those after its stand-in
 --   fair_drop                             the ways on after what is unlinked are among those before it
+use Rattle.std.specs.Prelude.{if◌then◌else◌}
 use Rattle.std.proofs.Common.{◌≡◌, ℕ, Bool, true, false, cond, not, ◌&&◌, ◌||◌, eqb, List, [], ◌∷◌, ◌++◌, sym, refl, subst, ⊎_elim}
 use Rattle.std.proofs.lemmas.Bool.{cond_both, and_parts, and_from, both_ways, or_cases, or_left, not-true}
-use Rattle.rules.specs.Tree.{if◌then◌else◌}
 use Rattle.rules.specs.Kinds.{specifier, empty_statement, expression_statement, var_declaration, declarator, identifier, literal, function_expression, class_expression, arrow, plain_expression, object, call_expression, delete_expression, assignment, member}
 use Rattle.rules.specs.Grammar.{Part, Way, go_on, step}
 use Rattle.rules.specs.Grammar.Part.{one, maybe, many}

@@ -8,9 +8,10 @@
 --   bears_fair                         the ways on from there are fair
 --   inner_ways, bears_inside           the ways of a record's children, while they are treated; these do too
 --   swap_moving, swap_declaring, swap_var, drop_formed      what gives way to a stand-in, or is unlinked, leaves the chain formed
+use Rattle.std.specs.Prelude.{if◌then◌else◌}
 use Rattle.std.proofs.Common.{◌≡◌, ℕ, true, false, ◌||◌, eqb, List, [], ◌∷◌, sym, refl, subst}
 use Rattle.std.proofs.lemmas.Bool.{cond_both, both_ways, or_left, or_right, eqb-true}
-use Rattle.rules.specs.Tree.{Head, Chain, if◌then◌else◌, ◌is◌, flagged}
+use Rattle.rules.specs.Tree.{Head, Chain, ◌is◌, flagged}
 use Rattle.rules.specs.Tree.Chain.{end}
 use Rattle.rules.specs.Kinds.{module_root, script_root, import_item, export_declaration, export_list, export_default, block, expression_statement, plain_statement, try_statement, fn_declaration, class_declaration, var_declaration, for_statement, with_statement, catch_part, declarator, function, class_body, method, property, static_block, constructor, function_expression, class_expression, arrow, plain_expression, object, call_expression, delete_expression, assignment, name_pattern, compound_pattern, default_pattern, property_name, expression_pattern, member, within, expression, statement, declaration, for_head, only}
 use Rattle.rules.specs.Grammar.{Way, item_children, statement_children, part_children, expression_children, pattern_children, try_children, children_of, go_on, step, misplaced}

@@ -5,9 +5,10 @@
 --   counts_turned                              the tables without bound
 --   names_declared, names_turned               the names declared
 --   reached_turned                             the records reached
+use Rattle.std.specs.Prelude.{if◌then◌else◌}
 use Rattle.std.proofs.Common.{◌≡◌, ℕ, ◌+◌, Bool, true, false, ◌||◌, List, [], ◌∷◌, ◌++◌, sym, refl, ap, ◌∙◌, ap₂, subst₂, append_assoc, append-nil, arith}
 use mathlib.Core.Bool.{or_assoc}
-use Rattle.rules.specs.Tree.{Head, Chain, Name, if◌then◌else◌, reached, unnumbered}
+use Rattle.rules.specs.Tree.{Head, Chain, Name, reached, unnumbered}
 use Rattle.rules.specs.Tree.Chain.{end, link}
 use Rattle.rules.specs.Kinds.{module_root, script_root}
 use Rattle.rules.specs.Names.{same, among, names_of, keep, under_nothing, under, declares, declaring, declared}

@@ -5,10 +5,11 @@
 --   Symbols, symbols_declared              rows whose first word is not 0
 --   has_symbol                             a record of a named kind has a symbol
 --   symbols_of_tree                        the rows of a tree formed by the table of kinds
+use Rattle.std.specs.Prelude.{if◌then◌else◌}
 use Rattle.std.proofs.Common.{◌≡◌, ℕ, Bool, true, false, not, ◌&&◌, ◌||◌, eqb, List, [], ◌∷◌, ◌++◌, length, sym, refl, ap, ◌∙◌, subst, inl, inr}
 use mathlib.Core.Bool.{or_assoc}
 use Rattle.std.proofs.lemmas.Bool.{or_cases, and_parts, not-true, eqb-true}
-use Rattle.rules.specs.Tree.{Head, Chain, Name, if◌then◌else◌, ◌is◌, name_of}
+use Rattle.rules.specs.Tree.{Head, Chain, Name, ◌is◌, name_of}
 use Rattle.rules.specs.Tree.Chain.{end, link}
 use Rattle.rules.specs.Kinds.{specifier, fn_declaration, class_declaration, name_pattern, property_name, member, known, definition_expression}
 use Rattle.rules.specs.Grammar.{named, name_fits, flags_fit, words_fit, Way, children_of, step, root}

@@ -4,9 +4,10 @@
 --   Items                    items that are no expressions, each with its own number
 --   Slot                     a record with this number, or nothing
 --   remains_at               what stays of an item is made of the item alone
+use Rattle.std.specs.Prelude.{if◌then◌else◌}
 use Rattle.std.proofs.Common.{◌≡◌, ℕ, Bool, true, false, ◌&&◌, ◌||◌, eqb, sym, refl, ap, ◌∙◌, subst}
 use Rattle.std.proofs.lemmas.Bool.{eqb-true, eq-eqb, both_ways}
-use Rattle.rules.specs.Tree.{Head, Chain, if◌then◌else◌, ◌is◌, is_end, append, unnumbered}
+use Rattle.rules.specs.Tree.{Head, Chain, ◌is◌, is_end, append, unnumbered}
 use Rattle.rules.specs.Tree.Chain.{end, link}
 use Rattle.rules.specs.Kinds.{empty_statement, block, for_statement, call_expression, assignment, expression}
 use Rattle.rules.specs.Removal.{By, Place, place_inside, entered, swept, Verdict, verdict, Left, done, treated, treat}

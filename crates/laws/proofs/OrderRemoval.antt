@@ -7,8 +7,9 @@
 --   remains_shuffled, changed_shuffled      in another order
 --   remains_unnumbered                record numbers apart
 --   root_treated                      what is left of a root that does not begin with 'use asm'
+use Rattle.std.specs.Prelude.{if◌then◌else◌}
 use Rattle.std.proofs.Common.{◌≡◌, Bool, true, false, not, ◌&&◌, ◌||◌, eqb, sym, refl, ap, ◌∙◌, subst₂}
-use Rattle.rules.specs.Tree.{Head, Chain, if◌then◌else◌, ◌is◌, is_end, append, unnumbered}
+use Rattle.rules.specs.Tree.{Head, Chain, ◌is◌, is_end, append, unnumbered}
 use Rattle.rules.specs.Tree.Chain.{end, link}
 use Rattle.rules.specs.Kinds.{module_root, script_root, empty_statement, block, for_statement}
 use Rattle.rules.specs.Removal.{By, Place, at_root, place_inside, asm, entered, swept, Left, unchanged, both, treated, treat}

@@ -2,7 +2,7 @@
 use Rattle.std.proofs.Common.{ℕ, List, [], ◌∷◌, refl}
 use Rattle.rules.specs.Kinds.{script_root, block, expression_statement, fn_declaration, function, identifier, call_expression}
 use Rattle.rules.specs.Check.{check}
-use Rattle.rules.specs.Law.{tree_of, Reordered}
+use Rattle.rules.specs.Law.{outcome_tree, Reordered}
 use Rattle.rules.specs.Law.Shuffled.{swap}
 use Rattle.rules.specs.Scripts.{a, b, own, ring}
 
@@ -23,7 +23,7 @@ turned =
     call_expression ∷ 0 ∷ 0 ∷ 0 ∷ 13 ∷ 0 ∷
     identifier ∷ 0 ∷ a ∷ own ∷ 0 ∷ 0 ∷ []
 
-pub premise_met : Reordered ring turned (tree_of (check ring)) (tree_of (check turned))
+pub premise_met : Reordered ring turned (outcome_tree (check ring)) (outcome_tree (check turned))
 premise_met = record {
   one = refl;
   other = refl;

@@ -5,9 +5,10 @@
 --   rooted_as                a checked tree is one root, of its kind, over its items
 --   formed_items, root_items its items are no expressions, each with its own number
 --   reordered_twins          the two trees of the law
+use Rattle.std.specs.Prelude.{if◌then◌else◌}
 use Rattle.std.proofs.Common.{◌≡◌, ℕ, Bool, true, false, ◌||◌, eqb, leb, List, [], ◌∷◌, sym, refl, ◌∙◌, subst, subst₂, inl, inr, arith}
 use Rattle.std.proofs.lemmas.Bool.{true≢false, false≢true, cases_Bool, or_cases, and_parts, and_left, eqb-true, leb-true, lt-leb}
-use Rattle.rules.specs.Tree.{Head, Chain, if◌then◌else◌, below, unnumbered}
+use Rattle.rules.specs.Tree.{Head, Chain, below, unnumbered}
 use Rattle.rules.specs.Tree.Chain.{end, link}
 use Rattle.rules.specs.Kinds.{module_root, script_root, import_item, export_declaration, export_list, export_default, member, expression, statement, item}
 use Rattle.rules.specs.Grammar.{root}

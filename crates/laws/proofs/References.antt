@@ -14,7 +14,7 @@ use Rattle.rules.specs.Tables.{Counts, look}
 use Rattle.rules.specs.Rings.{discount}
 use Rattle.rules.specs.Removal.{Config, at_root, unused, never_read, taken, gave}
 use Rattle.rules.specs.Calls.{Pass, pass_by, final}
-use Rattle.rules.specs.Law.{In, begun_on, tree_of, Reference, InsideRing}
+use Rattle.rules.specs.Law.{In, begun_on, outcome_tree, Reference, InsideRing}
 use Rattle.laws.specs.Parts.{ReferencesLaw}
 use Rattle.laws.proofs.KeepsFormed.{keeps_formed}
 use Rattle.laws.proofs.Runs.{Later, begun_ready, Made, calls_follow}
@@ -50,4 +50,4 @@ made_references k p left m e x r y =
 pub references_law : ReferencesLaw
 references_law k cs words p x =
     let s = begun_on words in
-    made_references k p (tree_of (final k cs s).tree) ((calls_follow k cs s (begun_ready words)).after p x)
+    made_references k p (outcome_tree (final k cs s).tree) ((calls_follow k cs s (begun_ready words)).after p x)

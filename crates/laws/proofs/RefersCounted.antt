@@ -1,9 +1,10 @@
 -- The events of a count that are references are the references of the tree, place by place: what leaving a scope adds are marks.
 --
 --   count_refers, refers_count      an event of the count is a reference of the tree, and back
+use Rattle.std.specs.Prelude.{if◌then◌else◌}
 use Rattle.std.proofs.Common.{◌≡◌, ℕ, Bool, true, false, ◌&&◌, ◌||◌, List, [], ◌∷◌, ◌++◌, sym, refl, ap, ◌∙◌, subst, inl, inr, ⊎_elim}
 use Rattle.std.proofs.lemmas.Bool.{both_ways}
-use Rattle.rules.specs.Tree.{Head, Chain, Name, if◌then◌else◌, ◌is◌}
+use Rattle.rules.specs.Tree.{Head, Chain, Name, ◌is◌}
 use Rattle.rules.specs.Tree.Chain.{end, link}
 use Rattle.rules.specs.Kinds.{export_declaration, export_name, function, identifier, call_expression, name_pattern, property_name}
 use Rattle.rules.specs.Names.{names_of, distinct, bound, declared_below, exported}

@@ -3,9 +3,10 @@
 --
 --   Exports, in_exported, exported_in      the records that an Export declaration exports, place by place
 --   treat_exports                          none comes by a removal
+use Rattle.std.specs.Prelude.{if◌then◌else◌}
 use Rattle.std.proofs.Common.{◌≡◌, ℕ, Bool, true, false, ◌||◌, eqb, ◌⊎◌, List, [], ◌++◌, sym, refl, subst, inl, inr, ⊎_elim}
 use Rattle.std.proofs.lemmas.Bool.{cond_both, both_ways, eqb-true, cases_Bool}
-use Rattle.rules.specs.Tree.{Head, Chain, if◌then◌else◌, ◌is◌, is_end, after, alone, append}
+use Rattle.rules.specs.Tree.{Head, Chain, ◌is◌, is_end, after, alone, append}
 use Rattle.rules.specs.Tree.Chain.{end, link}
 use Rattle.rules.specs.Kinds.{fn_declaration, class_declaration, var_declaration, declarator, name_pattern, compound_pattern, default_pattern, property_name, expression}
 use Rattle.rules.specs.Grammar.{Way, assigned, children_of, step}

@@ -1,10 +1,11 @@
 -- A counted reference with holders stands inside a declaration of each of them: a name is on a path only below its declaration.
 --
 --   OnPaths, inside_on      a name on one of the paths; below a record
---   holder_inside            the theorem
+--   holder_inside           the theorem
+use Rattle.std.specs.Prelude.{if◌then◌else◌}
 use Rattle.std.proofs.Common.{◌≡◌, ℕ, Bool, true, false, ◌||◌, ◌⊎◌, List, [], ◌∷◌, sym, ap, subst, inl, inr, ⊎_elim}
 use Rattle.std.proofs.lemmas.Bool.{cond_both}
-use Rattle.rules.specs.Tree.{Head, Chain, Name, if◌then◌else◌, ◌is◌, name_of}
+use Rattle.rules.specs.Tree.{Head, Chain, Name, ◌is◌, name_of}
 use Rattle.rules.specs.Tree.Chain.{end, link}
 use Rattle.rules.specs.Kinds.{export_name, fn_declaration, class_declaration, identifier, call_expression, name_pattern, property_name}
 use Rattle.rules.specs.Held.{Numbers}

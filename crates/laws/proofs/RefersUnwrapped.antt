@@ -2,10 +2,11 @@
 -- since none of these puts a name on a path or changes the innermost function or class.
 --
 --   AroundAlike, alike_inside      surroundings in which a reference is counted alike
---   refers_unwrapped                the theorem
+--   refers_unwrapped               the theorem
+use Rattle.std.specs.Prelude.{if◌then◌else◌}
 use Rattle.std.proofs.Common.{◌≡◌, ℕ, Bool, true, false, eqb, List, [], ◌∷◌, sym, refl, ◌∙◌, subst, inl, inr, ⊎_elim}
 use Rattle.std.proofs.lemmas.Bool.{and_parts, both_ways, eqb-true}
-use Rattle.rules.specs.Tree.{Head, Chain, Name, if◌then◌else◌, ◌is◌, is_end, below, alone}
+use Rattle.rules.specs.Tree.{Head, Chain, Name, ◌is◌, is_end, below, alone}
 use Rattle.rules.specs.Tree.Chain.{end, link}
 use Rattle.rules.specs.Kinds.{export_declaration, block, plain_statement, fn_declaration, class_declaration, function, identifier, function_expression, object, call_expression}
 use Rattle.rules.specs.Grammar.{Way, children_of, step}

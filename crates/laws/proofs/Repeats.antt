@@ -17,7 +17,7 @@ use Rattle.rules.specs.Calls.{State, cleared, Pass, pass_by, remove, After, pass
 use Rattle.rules.specs.Calls.Call.{pass, reset, repeat}
 use Rattle.rules.specs.Calls.Answer.{repeat_answer}
 use Rattle.rules.specs.Calls.Repeated.{repeated, stopped}
-use Rattle.rules.specs.Law.{begun_on, tree_of, Removable, Counted, RepeatKept}
+use Rattle.rules.specs.Law.{begun_on, outcome_tree, Removable, Counted, RepeatKept}
 use Rattle.laws.specs.Parts.{RepeatsLaw}
 use Rattle.laws.specs.RepeatsLaw.{BoundNeverEnds}
 use Rattle.laws.proofs.Basics.{refused_fine}
@@ -35,7 +35,7 @@ Used k left = (n : Name) → Removable k at_root n left → Counted n (events_of
 record Run (k : Config) (s : State) (turns : ℕ) (a : After (Outcome Bool)) : Type 0 where
   numbered : reached_by s.tree < turns → Numbered a.answer
   bounded : (b : Bool) → a.answer ≡ fine b → length a.made ≤ reached_by s.tree
-  used : (b : Bool) → a.answer ≡ fine b → Used k (tree_of a.state.tree)
+  used : (b : Bool) → a.answer ≡ fine b → Used k (outcome_tree a.state.tree)
 
 -- a tree has its root
 formed_reached : (c : Chain) → Formed root c → 1 ≤ reached c
@@ -93,7 +93,7 @@ ended_stopped (fine b) made first at passes n e = let z : ◌≡◌ {A = ℕ} 0 
 ended_stopped (refused number m) made first at passes n e = let z : number ≡ 0 = cc in omega (arith, n, z)
 
 fitting_kept : (k : Config) (c : Call) (s : State) → Ready s.tree → (passes first : ℕ)
-    → (call_fitting k c s).answer ≡ repeat_answer (repeated passes first) → RepeatKept k passes first (tree_of (call_fitting k c s).state.tree)
+    → (call_fitting k c s).answer ≡ repeat_answer (repeated passes first) → RepeatKept k passes first (outcome_tree (call_fitting k c s).state.tree)
 fitting_kept k pass s r passes first e = let z : ◌≡◌ {A = ℕ} 0 1 = cc in absurd (omega arith)
 fitting_kept k reset s r passes first e = let z : ◌≡◌ {A = ℕ} 0 1 = cc in absurd (omega arith)
 fitting_kept k repeat s r passes first e =
@@ -102,7 +102,7 @@ fitting_kept k repeat s r passes first e =
     let t = ended_repeated all.answer (length all.made) (reached_by s.tree) passes first e in
     record { bounded = omega (arith, i.bounded t.0 t.1, t.2, t.3); used = i.used t.0 t.1 }
 
-unfit_kept : (k : Config) (c : Call) (s : State) (passes first : ℕ) → unfit_answer c ≡ repeat_answer (repeated passes first) → RepeatKept k passes first (tree_of s.tree)
+unfit_kept : (k : Config) (c : Call) (s : State) (passes first : ℕ) → unfit_answer c ≡ repeat_answer (repeated passes first) → RepeatKept k passes first (outcome_tree s.tree)
 unfit_kept k pass s passes first e = let z : ◌≡◌ {A = ℕ} 0 1 = cc in absurd (omega arith)
 unfit_kept k reset s passes first e = let z : ◌≡◌ {A = ℕ} 0 1 = cc in absurd (omega arith)
 unfit_kept k repeat s passes first e = let z : ◌≡◌ {A = ℕ} 0 1 = cc in absurd (omega arith)
@@ -110,7 +110,7 @@ unfit_kept k repeat s passes first e = let z : ◌≡◌ {A = ℕ} 0 1 = cc in a
 pub repeats_law : RepeatsLaw
 repeats_law k cs words a x passes first =
     let t = called_one k cs (begun_on words) (begun_ready words) a x in
-    let P = λ (a : After Answer). a.answer ≡ repeat_answer (repeated passes first) → RepeatKept k passes first (tree_of a.state.tree) in
+    let P = λ (a : After Answer). a.answer ≡ repeat_answer (repeated passes first) → RepeatKept k passes first (outcome_tree a.state.tree) in
     subst P (sym t.1.2) (call_cases k t.0 t.1.0 P (fitting_kept k t.0 t.1.0 t.1.1 passes first) (unfit_kept k t.0 t.1.0 passes first))
 
 fitting_ends : (k : Config) (c : Call) (s : State) → Ready s.tree → (at passes : ℕ) → (call_fitting k c s).answer ≡ repeat_answer (stopped 0 at passes) → ⊥

@@ -2,10 +2,11 @@
 -- or a Block without children, and neither counts or declares anything.
 --
 --   ReadsSame, reads_link, reads_swept      the tree left gives the same counts, declared names, bound names and exported names
---   treat_same                               a removal that changes nothing leaves such a tree
+--   treat_same                              a removal that changes nothing leaves such a tree
+use Rattle.std.specs.Prelude.{if◌then◌else◌}
 use Rattle.std.proofs.Common.{◌≡◌, ℕ, Bool, true, false, ◌&&◌, ◌||◌, List, [], ◌∷◌, ◌++◌, sym, refl, ap, ◌∙◌, subst, ⊎_elim}
 use Rattle.std.proofs.lemmas.Bool.{cond_both, and_parts, both_ways, or_cases, or_parts, or_left, or_right, eqb-true}
-use Rattle.rules.specs.Tree.{Head, Chain, if◌then◌else◌, ◌is◌, is_end, append}
+use Rattle.rules.specs.Tree.{Head, Chain, ◌is◌, is_end, append}
 use Rattle.rules.specs.Tree.Chain.{end, link}
 use Rattle.rules.specs.Kinds.{export_declaration, export_name, empty_statement, block, fn_declaration, class_declaration, var_declaration, declarator, function, identifier, arrow, call_expression, name_pattern, property_name}
 use Rattle.rules.specs.Grammar.{Way, children_of, step}

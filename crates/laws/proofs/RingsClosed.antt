@@ -1,9 +1,10 @@
 -- Closed rings: each edge to a name of a closed ring comes from its ring, and the name is no entry.
 --
 --   closed_edge, closed_entry      the edges to such a name; its row
+use Rattle.std.specs.Prelude.{if◌then◌else◌}
 use Rattle.std.proofs.Common.{◌≡◌, Bool, true, false, not, ◌&&◌, List, [], ◌∷◌, sym, refl, subst, ⊎_elim}
 use Rattle.std.proofs.lemmas.Bool.{and_parts, and_from, both_ways, or_left, or_right, cases_Bool, not-true, not_from_false}
-use Rattle.rules.specs.Tree.{Name, if◌then◌else◌}
+use Rattle.rules.specs.Tree.{Name}
 use Rattle.rules.specs.Names.{same, among}
 use Rattle.rules.specs.Tables.{NameRow, EdgeRow, Counts, some_row, fresh, look}
 use Rattle.rules.specs.Rings.{component, has_other, has_entry, led_into, closed}

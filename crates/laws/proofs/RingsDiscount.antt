@@ -3,9 +3,10 @@
 --   look_name                   the row that is read bears the name
 --   look_discount               a name's row after the rings are discounted
 --   open_row, counted_row       outside closed rings it is as counted; it is counted where it was
+use Rattle.std.specs.Prelude.{if◌then◌else◌}
 use Rattle.std.proofs.Common.{◌≡◌, true, false, cond, ◌||◌, List, [], ◌∷◌, sym, refl, ap, ◌∙◌, subst}
 use Rattle.std.proofs.lemmas.Bool.{cond_both, both_ways, or_parts}
-use Rattle.rules.specs.Tree.{Name, if◌then◌else◌}
+use Rattle.rules.specs.Tree.{Name}
 use Rattle.rules.specs.Names.{same}
 use Rattle.rules.specs.Tables.{NameRow, Counts, fresh, look}
 use Rattle.rules.specs.Rings.{component, closed, less, discount_row, discount_rows, discount}

@@ -19,7 +19,7 @@ use Rattle.rules.specs.Tables.{Room, room, read_declared}
 use Rattle.rules.specs.Removal.{Config, By, at_root, treat}
 use Rattle.rules.specs.Calls.{State, Handed, handed_fit, cleared, filled_up, Filled, fill_tables, Pass, pass_by, remove, After, passed, pass_filled, pass_checked, pass_once, passes_from, reached_by, Call, Answer, call_fitting, unfit_answer, call, calls, final, passes_made}
 use Rattle.rules.specs.Calls.Call.{pass, reset, repeat}
-use Rattle.rules.specs.Law.{In, begun_on, tree_of}
+use Rattle.rules.specs.Law.{In, begun_on, outcome_tree}
 use Rattle.rules.proofs.Sounds.{check_sound}
 use Rattle.laws.proofs.Basics.{elim_both, in_append}
 use Rattle.laws.proofs.KeepsFormed.{keeps_formed}
@@ -114,13 +114,13 @@ pub record Made (k : Config) (p : Pass) (left : Chain) : Type 0 where
 -- the tree left is ready, and comes after the one found and after each that a pass left
 pub record Follows (k : Config) (s : State) (made : List Pass) (left : State) : Type 0 where
   pub ready : Ready left.tree
-  pub on : Later (tree_of s.tree) (tree_of left.tree)
-  pub after : (p : Pass) → In p made → Made k p (tree_of left.tree)
+  pub on : Later (outcome_tree s.tree) (outcome_tree left.tree)
+  pub after : (p : Pass) → In p made → Made k p (outcome_tree left.tree)
 
 none_made : (k : Config) (s left : State) → Ready s.tree → left.tree ≡ s.tree → Follows k s [] left
 none_made k s left r e = record {
   ready = subst Ready (sym e) r;
-  on = subst (λ (o : Outcome Chain). Later (tree_of s.tree) (tree_of o)) (sym e) here;
+  on = subst (λ (o : Outcome Chain). Later (outcome_tree s.tree) (outcome_tree o)) (sym e) here;
   after = λ p x. absurd x;
 }
 
@@ -130,7 +130,7 @@ result_follows k s r one (one_made p e f) =
     let q : Formed root p.found = subst Ready e r in
     record {
       ready = keeps_formed (pass_by k p.filled) p.found q;
-      on = subst (λ (o : Outcome Chain). Later (tree_of o) (remove k p).chain) (sym e) (onward (pass_by k p.filled) p.found here);
+      on = subst (λ (o : Outcome Chain). Later (outcome_tree o) (remove k p).chain) (sym e) (onward (pass_by k p.filled) p.found here);
       after = λ m x. ⊎_elim
           (λ y. subst (λ (j : Pass). Made k j (remove k p).chain) (sym y) (record { formed = q; full = f; later = here }))
           (λ y. absurd y) x;
@@ -143,7 +143,7 @@ follows_then : (k : Config) (s t u : State) (ps qs : List Pass) → Follows k s 
 follows_then k s t u ps qs f g = record {
   ready = g.ready;
   on = later_then f.on g.on;
-  after = λ p x. ⊎_elim (λ y. made_then k p (tree_of t.tree) (tree_of u.tree) (f.after p y) g.on) (g.after p) (in_append p ps qs x);
+  after = λ p x. ⊎_elim (λ y. made_then k p (outcome_tree t.tree) (outcome_tree u.tree) (f.after p y) g.on) (g.after p) (in_append p ps qs x);
 }
 
 from_follows : (k : Config) (left : ℕ) (s : State) → Ready s.tree → Follows k s (passes_from k left s).made (passes_from k left s).state

@@ -3,8 +3,9 @@
 --
 --   Numbered                               a result, or a refusal with such a number
 --   numbered_check, numbered_tables        the check; the tables
+use Rattle.std.specs.Prelude.{if◌then◌else◌}
 use Rattle.std.proofs.Common.{ℕ, zero, suc, ◌≤◌, Bool, true, false, not, ◌||◌, eqb, ltb, List, [], ◌∷◌, length, arith}
-use Rattle.rules.specs.Tree.{Head, Chain, Name, if◌then◌else◌, name_of}
+use Rattle.rules.specs.Tree.{Head, Chain, Name, name_of}
 use Rattle.rules.specs.Kinds.{member}
 use Rattle.rules.specs.Grammar.{words_fit, Way, children_of, step, misplaced, may_end, root}
 use Rattle.rules.specs.Refusals.{Outcome, and_then, bad_link, too_deep, bad_record, declared_full, names_full, edges_full}

@@ -2,11 +2,12 @@
 -- Two rows of one edge would do no harm here: their weights are added up.
 --
 --   edged, some_edge_entered, edged_commutes      some edge passes
---   weighed, weights_entered, weighed_commutes     the weights of the edges that pass
+--   weighed, weights_entered, weighed_commutes    the weights of the edges that pass
+use Rattle.std.specs.Prelude.{if◌then◌else◌}
 use Rattle.std.proofs.Common.{◌≡◌, ℕ, ◌+◌, Bool, true, false, ◌||◌, List, [], ◌∷◌, sym, refl, ap, ◌∙◌, subst₂, arith}
 use mathlib.Core.Bool.{or_assoc, or_self}
 use Rattle.std.proofs.lemmas.Bool.{and_parts, and_from}
-use Rattle.rules.specs.Tree.{Name, if◌then◌else◌}
+use Rattle.rules.specs.Tree.{Name}
 use Rattle.rules.specs.Names.{same}
 use Rattle.rules.specs.Counting.{Event}
 use Rattle.rules.specs.Tables.{EdgeRow, Counts, some_row, edge_of, reads, writes}

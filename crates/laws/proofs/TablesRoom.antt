@@ -5,10 +5,11 @@
 --   fits, Larger                   the rows fit; tables grow
 --   all_declared, declare_bounded  the declared names, each once
 --   fill_bounded                   names and edges
+use Rattle.std.specs.Prelude.{if◌then◌else◌}
 use Rattle.std.proofs.Common.{◌≡◌, ℕ, suc, ◌+◌, ◌≤◌, Bool, true, false, ◌&&◌, ltb, leb, List, [], ◌∷◌, length, sym, refl, ap, ◌∙◌, subst, inl, inr, arith}
 use Rattle.std.proofs.lemmas.Bool.{cases_Bool, and_parts, and_from, and_cases, and_left, and_right, le-leb, lt-leb, leb-false, ltb-true, ltb-false}
 use Rattle.std.proofs.lemmas.List.{length_push}
-use Rattle.rules.specs.Tree.{Head, Name, if◌then◌else◌, name_of}
+use Rattle.rules.specs.Tree.{Head, Name, name_of}
 use Rattle.rules.specs.Refusals.{Outcome, and_then, declared_full, names_full, edges_full}
 use Rattle.rules.specs.Refusals.Outcome.{fine, refused}
 use Rattle.rules.specs.Names.{same}

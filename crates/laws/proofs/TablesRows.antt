@@ -5,10 +5,10 @@
 --   change_with                       needed, then changed
 --   with_row_there, with_row_new      what comes last
 --   some_with_row, some_with_change, total_with_change      what tests and sums tell afterwards
+use Rattle.std.specs.Prelude.{if◌then◌else◌}
 use Rattle.std.proofs.Common.{◌≡◌, ℕ, ◌+◌, Bool, true, false, ◌||◌, List, [], ◌∷◌, ◌++◌, refl, ap, ◌∙◌, inl, inr, arith}
 use mathlib.Core.Bool.{or_assoc}
 use Rattle.std.proofs.lemmas.Bool.{false≢true, cases_Bool, cond-true, or_cases, or_left, or_right, or_parts}
-use Rattle.rules.specs.Tree.{if◌then◌else◌}
 use Rattle.rules.specs.Tables.{EdgeRow, some_row, change}
 use Rattle.rules.specs.Rings.{total}
 use Rattle.laws.proofs.Basics.{bool_eq, or_swap}

@@ -4,10 +4,10 @@
 --   has_key, Single                      a row has this key; no two rows have one key
 --   single_with_row, single_with_change  the filling without bound keeps it so
 --   equal_sizes                          the same keys, equally many rows
+use Rattle.std.specs.Prelude.{if◌then◌else◌}
 use Rattle.std.proofs.Common.{◌≡◌, suc, Bool, true, false, cond, not, ◌&&◌, ◌||◌, List, [], ◌∷◌, length, sym, refl, ap, ◌∙◌, subst, inl, inr}
 use mathlib.Core.Bool.{or_self}
 use Rattle.std.proofs.lemmas.Bool.{true≢false, false≢true, cases_Bool, or_left, or_from, and_right}
-use Rattle.rules.specs.Tree.{if◌then◌else◌}
 use Rattle.rules.specs.Tables.{some_row}
 use Rattle.laws.proofs.Basics.{by_equal}
 use Rattle.laws.proofs.TablesRows.{with_row, with_change, some_with_row, some_with_change}

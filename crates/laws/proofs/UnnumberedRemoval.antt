@@ -2,10 +2,11 @@
 -- A verdict speaks of names only, so it is the same for both; and each thing done commutes with taking the numbers away.
 --
 --   blind                      a lawful judge does not see record numbers
---   .. -unnumbered             what is read of a chain; each rule's test; what is done
+--   .. _unnumbered             what is read of a chain; each rule's test; what is done
 --   treat_unnumbered           what is left of a chain
+use Rattle.std.specs.Prelude.{if◌then◌else◌}
 use Rattle.std.proofs.Common.{◌≡◌, ℕ, Bool, true, false, not, ◌&&◌, ◌||◌, sym, refl, ap, ◌∙◌, ap₂}
-use Rattle.rules.specs.Tree.{Head, Chain, Name, if◌then◌else◌, ◌is◌, flagged, is_end, below, after, first_is, first_flagged, first_symbol, first_name, alone, append, unnumbered_head, unnumbered}
+use Rattle.rules.specs.Tree.{Head, Chain, Name, ◌is◌, flagged, is_end, below, after, first_is, first_flagged, first_symbol, first_name, alone, append, unnumbered_head, unnumbered}
 use Rattle.rules.specs.Tree.Chain.{end, link}
 use Rattle.rules.specs.Kinds.{empty_statement, block, expression_statement, var_declaration, declarator, method, property, static_block, identifier, plain_expression, call_expression, assignment, name_pattern, expression}
 use Rattle.rules.specs.Judges.{Lawful}

@@ -2,8 +2,8 @@
 --
 --   KeepsFormed, KeepsApart, KeepsLevel      the table of kinds, each record once, the nesting
 --   KeepsNumbers, RootKept, KeepsRoot        record numbers; the root
---   CheckedAgain                               words that hold what is left are taken by the check
---   FewerReached, LostReached                 how many records are left
+--   CheckedAgain                             words that hold what is left are taken by the check
+--   FewerReached, LostReached                how many records are left
 use Rattle.std.specs.Prelude.{◌≡◌, ℕ, ◌<◌, ◌≤◌, true, List, length}
 use Rattle.rules.specs.Tree.{Head, Chain, reached}
 use Rattle.rules.specs.Tree.Chain.{end, link}

@@ -3,8 +3,8 @@
 --   mark_name                       one name: one usage, without holder or entry
 --   Marking, marking, mark_each     the words and the scope that marks; each name as it comes
 --   Once, once, mark_once           the same beside the names marked so far; each name that is not among them
-use Rattle.std.specs.Prelude.{ℕ, false, List}
-use Rattle.rules.specs.Tree.{Head, Name, if◌then◌else◌, name_of}
+use Rattle.std.specs.Prelude.{ℕ, false, List, if◌then◌else◌}
+use Rattle.rules.specs.Tree.{Head, Name, name_of}
 use Rattle.rules.specs.Refusals.{Outcome, and_then}
 use Rattle.rules.specs.Refusals.Outcome.{fine}
 use Rattle.data.specs.Events.{counted}

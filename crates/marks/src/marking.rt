@@ -9,7 +9,7 @@ ghost use Rattle.rules.specs.Tree.{reached};
 ghost use Rattle.rules.specs.Words.{tree_of, Whole};
 ghost use Rattle.records.specs.Reads.{head_of};
 ghost use Rattle.tables.specs.Counts.{more_counts, with_counted};
-ghost use Rattle.tables.specs.Faults.{number as number_of_lem, place as place_of};
+ghost use Rattle.tables.specs.Faults.{number as number_of, place as place_of};
 ghost use Rattle.tables.specs.Held.{changed};
 ghost use Rattle.tables.specs.Matching.{name_of_id};
 ghost use Rattle.data.specs.Events.{placed_at, name_placed, tables};
@@ -48,7 +48,7 @@ impl<'t> NameSink for EachName<'t> {
 
     ghost takes = { mark_each };
 
-    ghost number = { number_of_lem };
+    ghost number = { number_of };
 
     ghost place = { place_of };
 
@@ -80,7 +80,7 @@ impl<'t, 's> NameSink for FirstOfName<'t, 's> {
 
     ghost takes = { mark_once };
 
-    ghost number = { number_of_lem };
+    ghost number = { number_of };
 
     ghost place = { place_of };
 
@@ -108,7 +108,7 @@ fn name_of(bearer: Record) -> Id
 
 /// The row of a name, which gets the first free one if it has none. The scope `at` marks it.
 fn name_row(names: &mut [u32], id: Id, at: u32) -> Result<usize, TableFault>
-    ensures is { MatchResult result (λ row. name_placed id at names.old ≡ fine (placed_at row names.new)) (λ e. name_placed id at names.old ≡ refused (number_of_lem e) (place_of e)) }
+    ensures is { MatchResult result (λ row. name_placed id at names.old ≡ fine (placed_at row names.new)) (λ e. name_placed id at names.old ≡ refused (number_of e) (place_of e)) }
     ensures behind { zeroed names_width names.new ≡ zeroed names_width names.old }
 {
     Names::need(names, id, at)
@@ -116,7 +116,7 @@ fn name_row(names: &mut [u32], id: Id, at: u32) -> Result<usize, TableFault>
 
 /// Marks a name: one usage. The scope `at` marks it.
 fn mark_name(names: &mut [u32], id: Id, at: u32) -> Result<(), TableFault>
-    ensures is { MatchResult result (λ _. mark_name (name_of_id id) at names.old ≡ fine names.new) (λ e. mark_name (name_of_id id) at names.old ≡ refused (number_of_lem e) (place_of e)) }
+    ensures is { MatchResult result (λ _. mark_name (name_of_id id) at names.old ≡ fine names.new) (λ e. mark_name (name_of_id id) at names.old ≡ refused (number_of e) (place_of e)) }
     ensures behind { zeroed names_width names.new ≡ zeroed names_width names.old }
 {
     let row = name_row(names, id, at)?;
@@ -144,7 +144,7 @@ pub fn mark_declared(
     requires whole { Whole words.now node.first }
     requires deep { depth (tree_of words.now node.first) ≤ left }
     requires room { 2 * reached (tree_of words.now node.first) ≤ length seen.old }
-    ensures marks { MatchResult result (λ _. ((edges : List ℕ) → fill_words (marks n (distinct [] (names_of (declared_below (head_of n node) (tree_of words.now node.first))))) (tables names.old edges) ≡ fine (tables names.new edges))) (λ e. ((edges : List ℕ) → fill_words (marks n (distinct [] (names_of (declared_below (head_of n node) (tree_of words.now node.first))))) (tables names.old edges) ≡ refused (number_of_lem e) (place_of e))) }
+    ensures marks { MatchResult result (λ _. ((edges : List ℕ) → fill_words (marks n (distinct [] (names_of (declared_below (head_of n node) (tree_of words.now node.first))))) (tables names.old edges) ≡ fine (tables names.new edges))) (λ e. ((edges : List ℕ) → fill_words (marks n (distinct [] (names_of (declared_below (head_of n node) (tree_of words.now node.first))))) (tables names.old edges) ≡ refused (number_of e) (place_of e))) }
     ensures behind { zeroed names_width names.new ≡ zeroed names_width names.old }
 {
     let mut sink = FirstOfName {
@@ -166,7 +166,7 @@ pub fn mark_parameters(
 ) -> Result<(), TableFault>
     requires whole { Whole words.now node.first }
     requires deep { depth (tree_of words.now node.first) ≤ left }
-    ensures marks { MatchResult result (λ _. ((edges : List ℕ) → fill_words (marks n (names_of (bound (tree_of words.now node.first)))) (tables names.old edges) ≡ fine (tables names.new edges))) (λ e. ((edges : List ℕ) → fill_words (marks n (names_of (bound (tree_of words.now node.first)))) (tables names.old edges) ≡ refused (number_of_lem e) (place_of e))) }
+    ensures marks { MatchResult result (λ _. ((edges : List ℕ) → fill_words (marks n (names_of (bound (tree_of words.now node.first)))) (tables names.old edges) ≡ fine (tables names.new edges))) (λ e. ((edges : List ℕ) → fill_words (marks n (names_of (bound (tree_of words.now node.first)))) (tables names.old edges) ≡ refused (number_of e) (place_of e))) }
     ensures behind { zeroed names_width names.new ≡ zeroed names_width names.old }
 {
     let mut sink = EachName { names, at: n };

@@ -1,7 +1,8 @@
 -- A walk that hands names on as it comes to them does what handing over the whole list does.
 -- A list in two parts is handed over one after the other, and each walk is the list of its parts in order.
+use Rattle.std.specs.Prelude.{if◌then◌else◌}
 use Rattle.std.proofs.Common.{◌≡◌, Bool, true, false, List, [], ◌∷◌, ◌++◌, sym, refl, ap, ◌∙◌}
-use Rattle.rules.specs.Tree.{Head, Chain, if◌then◌else◌}
+use Rattle.rules.specs.Tree.{Head, Chain}
 use Rattle.rules.specs.Tree.Chain.{end, link}
 use Rattle.rules.specs.Names.{binds, nests, keep, bound, Under, under, declares, declaring, exported}
 use Rattle.rules.specs.Refusals.{Outcome, and_then}

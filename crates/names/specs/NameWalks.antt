@@ -2,8 +2,8 @@
 --
 --   taken                                     a name handed to the sink, if it is wanted
 --   walk_bound, walk_declared, walk_exported  the walks of the book's bound, declaring and exported
-use Rattle.std.specs.Prelude.{Bool, ◌||◌}
-use Rattle.rules.specs.Tree.{Head, Chain, if◌then◌else◌, ◌is◌}
+use Rattle.std.specs.Prelude.{Bool, ◌||◌, if◌then◌else◌}
+use Rattle.rules.specs.Tree.{Head, Chain, ◌is◌}
 use Rattle.rules.specs.Tree.Chain.{end, link}
 use Rattle.rules.specs.Kinds.{fn_declaration, class_declaration, var_declaration, declarator}
 use Rattle.rules.specs.Names.{binds, nests, Under, under, declares}

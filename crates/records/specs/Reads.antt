@@ -1,7 +1,7 @@
 -- What it is to have read a record. The contracts of records and of the cursor cite it.
 --
 --   Starts, Part      where a record begins; its six words
---   head_of            a record of the code, without its links, as the book has it
+--   head_of           a record of the code, without its links, as the book has it
 --   Reads             a record of the code is what the words have at a number
 use Rattle.std.specs.Prelude.{◌≡◌, ℕ, ◌+◌, ◌-◌, ◌*◌, ◌≤◌, true, List, length, slice_index_or}
 use Rattle.rules.specs.Tree.{Head}

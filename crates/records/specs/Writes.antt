@@ -2,8 +2,7 @@
 --
 --   with_word      the words, one word of a record changed
 --   turned         the words, a record made one of another kind
-use Rattle.std.specs.Prelude.{ℕ, ◌+◌, ◌-◌, ◌*◌, List, slice_set}
-use Rattle.rules.specs.Tree.{if◌then◌else◌}
+use Rattle.std.specs.Prelude.{ℕ, ◌+◌, ◌-◌, ◌*◌, List, slice_set, if◌then◌else◌}
 use Rattle.rules.specs.Kinds.{within}
 use Rattle.rules.specs.Words.{records}
 

@@ -1,8 +1,9 @@
 -- The weights of edges, taken from the rows one edge after another, are what the book's `discount` takes at once.
 -- Subtractions that wrap add up; an edge changes the one row of the name that it leads to, as names have one row each.
+use Rattle.std.specs.Prelude.{if◌then◌else◌}
 use Rattle.std.proofs.Common.{◌≡◌, ℕ, ◌+◌, ◌^◌, ◌<◌, Bool, true, false, not, ◌&&◌, List, [], ◌∷◌, ◌++◌, map, sym, refl, ap, ◌∙◌, ⊎_elim, arith}
 use Rattle.std.proofs.lemmas.Bool.{cond-true, cond-false, and_left, and_right, or_parts, cases_Bool}
-use Rattle.rules.specs.Tree.{Name, if◌then◌else◌}
+use Rattle.rules.specs.Tree.{Name}
 use Rattle.rules.specs.Names.{same, among}
 use Rattle.rules.specs.Tables.{NameRow, EdgeRow, Counts, some_row, change, row_of}
 use Rattle.rules.specs.Rings.{component, closed, minus, from_ring, total, less, discount_row, discount_rows}

@@ -2,8 +2,7 @@
 --
 --   node, pairs            the node of a name is its row in names, from 0; the edges between nodes
 --   Closed                 a label is that of a closed ring
---   Verdict                what a mark says of a label
---   ClosedByLabels       the book's `closed`, told by labels
+--   ClosedByLabels         the book's `closed`, told by labels
 use Rattle.std.specs.Prelude.{◌≡◌, ℕ, ◌-◌, ◌<◌, Bool, true, false, List, map, length, Some, slice_index, slice_index_or}
 use Rattle.rules.specs.Tree.{Name}
 use Rattle.rules.specs.Tables.{NameRow, EdgeRow, Counts, row_number}

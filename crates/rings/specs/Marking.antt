@@ -2,7 +2,7 @@
 --
 --   end_at, joins          the nodes in a row of edges; all rows of edges as edges between nodes
 --   Latest, Members        the nodes of each label in a chain of links, the last one first
---   FedOutside, Outside   an edge enters a node from another label; the nodes for which that is so are marked
+--   FedOutside, Outside    an edge enters a node from another label; the nodes for which that is so are marked
 --   entered_at             a node is an entry
 --   Quiet                  two nodes have a label, and none that has it is an entry or marked
 --   Verdict, Ruled         what a mark says of a label; of each label

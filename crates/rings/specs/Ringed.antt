@@ -1,26 +1,16 @@
 -- Tables of names and edges, and what is taken from their rows. The contract of `subtract_cycles` cites it.
 --
---   Distinct, Small        no two rows have one name; the counts fit 32 bits
+--   Distinct, Small, Ready      words that hold the rows of a count
 --   passes                 an edge between two names of one closed ring
 --   taken, lessened        a row, and all rows, less the weights of some edges that pass
---   Ready                  words that hold the rows of a count
---   DiscountedByEdges    one pass over the edges comes to the book's `discount`
-use Rattle.std.specs.Prelude.{◌≡◌, ℕ, ◌^◌, ◌<◌, Bool, false, not, ◌&&◌, List, [], ◌∷◌, ◌++◌, map}
-use Rattle.rules.specs.Tree.{if◌then◌else◌}
+--   DiscountedByEdges      one pass over the edges comes to the book's `discount`
+use Rattle.std.specs.Prelude.{◌≡◌, Bool, not, ◌&&◌, List, [], ◌∷◌, ◌++◌, map, if◌then◌else◌}
 use Rattle.rules.specs.Names.{same, among}
-use Rattle.rules.specs.Tables.{NameRow, EdgeRow, Counts, some_row, change, row_of}
+use Rattle.rules.specs.Tables.{NameRow, EdgeRow, Counts, change, row_of}
 use Rattle.rules.specs.Rings.{component, closed, minus, total, discount}
-use Rattle.tables.specs.Matching.{NamesHeld, EdgesHeld, Known, shrunk}
-
--- no two rows have one name
-abbrev pub Distinct : List NameRow → Type 0
-Distinct [] = Unit {0}
-Distinct (r ∷ rs) = (some_row (row_of r.name) rs ≡ false) × Distinct rs
-
--- the counts of the rows fit 32 bits
-abbrev pub Small : List NameRow → Type 0
-Small [] = Unit {0}
-Small (r ∷ rs) = (r.usage < 2 ^ 32) × (r.assign < 2 ^ 32) × Small rs
+use Rattle.tables.specs.Matching.{shrunk}
+-- they stand with the tables, since what counts cites them too
+pub use Rattle.tables.specs.Ready.{Distinct, Small, Ready}
 
 -- an edge from one name of a closed ring to another
 abbrev pub passes : Counts → EdgeRow → Bool
@@ -39,14 +29,6 @@ taken passing edges r = record {
 -- each row
 abbrev pub lessened : (EdgeRow → Bool) → List EdgeRow → List NameRow → List NameRow
 lessened passing edges rows = map (taken passing edges) rows
-
--- words that hold the rows of a count: each name has one row, an edge joins names that have rows, and counts fit 32 bits
-pub record Ready (c : Counts) (found found' names edges : List ℕ) : Type 0 where
-  pub distinct : Distinct c.names
-  pub small : Small c.names
-  pub known : Known c.names c.edges
-  pub names_held : NamesHeld found c.names names
-  pub edges_held : EdgesHeld c.names found' c.edges edges
 
 -- the rows less the weights of no edge are the rows, one more edge that passes takes its weights from the row of the name that it leads to,
 -- and less the weights of all edges that pass they are the book's

@@ -4,10 +4,9 @@
 --   spent              the words of names after the first edges
 --   Discounted         words of names that held rows hold the book's discounted rows, where labels tell the components
 --   Subtracted         the same whatever the labels are
---   NotEnough         no count that fits the work memory is held
---   PassedOver        the names that keep their counts
-use Rattle.std.specs.Prelude.{◌≡◌, ℕ, zero, suc, ◌+◌, ◌*◌, ◌^◌, ◌<◌, ◌≤◌, Bool, true, false, not, ◌&&◌, List, length, ◌==◌, slice_index}
-use Rattle.rules.specs.Tree.{if◌then◌else◌}
+--   NotEnough          no count that fits the work memory is held
+--   PassedOver         the names that keep their counts
+use Rattle.std.specs.Prelude.{◌≡◌, ℕ, zero, suc, ◌+◌, ◌*◌, ◌^◌, ◌<◌, ◌≤◌, Bool, true, false, not, ◌&&◌, List, length, ◌==◌, slice_index, if◌then◌else◌}
 use Rattle.rules.specs.Tables.{NameRow, Counts, names_width, edges_width, names_in_words, table}
 use Rattle.rules.specs.Rings.{component, has_other, has_entry, led_into, discount_row, discount}
 use Rattle.tables.specs.Held.{changed}

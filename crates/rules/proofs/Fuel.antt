@@ -6,9 +6,9 @@
 --   walk_induction                       what holds at the ends of chains and at each record holds of walks
 --   walk_visits                          a walk adds the records of its chain
 --   walk_same, opened, closed            the walk without its fuel
+use Rattle.std.specs.Prelude.{if◌then◌else◌}
 use Rattle.std.proofs.Common.{◌≡◌, ℕ, zero, suc, ◌≤◌, Bool, true, false, not, ◌||◌, eqb, ltb, List, ◌∷◌, sym, refl, ap, ◌∙◌, subst, ⊎_elim, arith}
 use Rattle.std.proofs.lemmas.Bool.{cases_Bool, ltb-false, le-ltb, or_parts, or_from, eqb-true, eqb-false, not-false}
-use Rattle.rules.specs.Tree.{if◌then◌else◌}
 use Rattle.rules.specs.Tree.Chain.{end, link}
 use Rattle.rules.specs.Kinds.{member}
 use Rattle.rules.specs.Grammar.{Way, words_fit, children_of, step, misplaced, may_end}

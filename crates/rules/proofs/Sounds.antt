@@ -5,9 +5,10 @@
 --   Good, walk_good                                   what a walk reads
 --   chain_walked                                      what the words hold is read
 --   check_sound, check_complete, check_most           the theorems
+use Rattle.std.specs.Prelude.{if◌then◌else◌}
 use Rattle.std.proofs.Common.{◌≡◌, ℕ, suc, ◌≤◌, Bool, true, false, ◌&&◌, eqb, leb, List, [], ◌∷◌, length, sym, refl, ap, ◌∙◌, subst, inl, inr, arith}
 use Rattle.std.proofs.lemmas.Bool.{cases_Bool, both_ways, eq-eqb, ne_eqb, eqb-true, le-leb, or_right, or_left, or_parts, and_from, and_parts}
-use Rattle.rules.specs.Tree.{Head, Chain, if◌then◌else◌}
+use Rattle.rules.specs.Tree.{Head, Chain}
 use Rattle.rules.specs.Tree.Chain.{end, link}
 use Rattle.rules.specs.Kinds.{member, within, known}
 use Rattle.rules.specs.Grammar.{Way, flags_fit, name_fits, children_of, step, root}

@@ -4,8 +4,8 @@
 --   take             one record: is the link good, is it not too deep, does it fit its place
 --   walk, stop       a chain from a link on: a record, its children, the rest; where it ends
 --   check            the whole tree
-use Rattle.std.specs.Prelude.{ℕ, zero, suc, ◌%◌, Bool, true, false, not, ◌&&◌, ◌||◌, List, [], ◌∷◌, length, ◌==◌, nat_lt}
-use Rattle.rules.specs.Tree.{Chain, if◌then◌else◌}
+use Rattle.std.specs.Prelude.{ℕ, zero, suc, ◌%◌, Bool, true, false, not, ◌&&◌, ◌||◌, List, [], ◌∷◌, length, ◌==◌, nat_lt, if◌then◌else◌}
+use Rattle.rules.specs.Tree.{Chain}
 use Rattle.rules.specs.Tree.Chain.{end, link}
 use Rattle.rules.specs.Kinds.{member, within}
 use Rattle.rules.specs.Grammar.{Way, words_fit, children_of, step, misplaced, may_end, root}

@@ -1,13 +1,13 @@
 -- Counting: the references and marks of a tree, in the order in which they are counted.
 --
 --   Event, refer, marked       one reference or mark
---   Found, _followed-by_       what a part of the tree gives: events, and what its innermost scope notes
+--   Found, ◌followed_by◌       what a part of the tree gives: events, and what its innermost scope notes
 --   Role                       what a Name pattern does where it stands
 --   Around, inside             what surrounds a place: the innermost function's and class's names, the scopes' paths
 --   reference, own, leave      what a record does itself; what leaving a scope does
 --   count, events_of           a chain; a tree
-use Rattle.std.specs.Prelude.{ℕ, Bool, true, false, ◌&&◌, ◌||◌, List, [], ◌∷◌, ◌++◌, ◌==◌}
-use Rattle.rules.specs.Tree.{Head, Chain, Name, if◌then◌else◌, ◌is◌, flagged, name_of}
+use Rattle.std.specs.Prelude.{ℕ, Bool, true, false, ◌&&◌, ◌||◌, List, [], ◌∷◌, ◌++◌, ◌==◌, if◌then◌else◌}
+use Rattle.rules.specs.Tree.{Head, Chain, Name, ◌is◌, flagged, name_of}
 use Rattle.rules.specs.Tree.Chain.{end, link}
 use Rattle.rules.specs.Kinds.{export_declaration, export_name, fn_declaration, class_declaration, declarator, function, identifier, arrow, call_expression, assignment, name_pattern, property_name, arguments_symbol, eval_symbol}
 use Rattle.rules.specs.Names.{among, names_of, distinct, nests, bound, declared_below, exported}

@@ -1,8 +1,8 @@
 -- What the check's definition comes to: the check takes exactly what the words hold, and `tree_of` reads it.
 --
 --   CheckSound, CheckComplete      the check gives a chain exactly where that is the tree of the words
---   CheckMost                       no more records are reached than there are
---   ReadBack, TreeIsRead          the chain that the words hold is the one that `tree_of` reads
+--   CheckMost                      no more records are reached than there are
+--   ReadBack, TreeIsRead           the chain that the words hold is the one that `tree_of` reads
 use Rattle.std.specs.Prelude.{◌≡◌, ℕ, ◌≤◌, List}
 use Rattle.rules.specs.Tree.{Chain, reached}
 use Rattle.rules.specs.Refusals.Outcome.{fine}

@@ -4,8 +4,8 @@
 --   Part, Way                            one child of a sort, at most one, or any number; what is still to come of a chain
 --   children_of                          the ways in which the children of a record may go
 --   step, may_end                        the ways on after a child; whether a chain may end where it is
-use Rattle.std.specs.Prelude.{ℕ, Bool, true, false, not, ◌&&◌, ◌||◌, List, [], ◌∷◌, ◌++◌, ◌==◌, nat_eq}
-use Rattle.rules.specs.Tree.{Head, if◌then◌else◌, ◌is◌, flagged}
+use Rattle.std.specs.Prelude.{ℕ, Bool, true, false, not, ◌&&◌, ◌||◌, List, [], ◌∷◌, ◌++◌, ◌==◌, nat_eq, if◌then◌else◌}
+use Rattle.rules.specs.Tree.{Head, ◌is◌, flagged}
 use Rattle.rules.specs.Kinds.{member, within, known, module_root, script_root, import_item, specifier, export_declaration, export_list, export_name, export_default, block, expression_statement, plain_statement, try_statement, fn_declaration, class_declaration, var_declaration, for_statement, with_statement, catch_part, declarator, function, class_body, method, property, static_block, constructor, identifier, literal, function_expression, class_expression, arrow, plain_expression, object, call_expression, delete_expression, assignment, name_pattern, compound_pattern, default_pattern, property_name, expression_pattern, expression, statement, pattern, item, declaration, class_member, for_head, arrow_body, compound_part, definition_expression, only}
 
 -- the kinds whose records bear a name

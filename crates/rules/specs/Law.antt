@@ -1,11 +1,11 @@
 -- The law about runs: what holds of every list of calls on a shaker that was begun, refused calls included.
 --
---   Law                         the three parts: order, references, repeats
+--   Law                        the three parts: order, references, repeats
 --   OrderKept                  the order of top-level items does not matter
 --   ReferencesKept             a reference left to a name whose declaration was taken stands inside its closed ring
 --   RepeatsKept                a completed repeat makes few passes, and leaves no removable function unused
-use Rattle.std.specs.Prelude.{◌≡◌, ℕ, ◌≤◌, Bool, true, false, not, ◌&&◌, ◌||◌, ◌⊎◌, List, [], ◌∷◌, length, ◌==◌}
-use Rattle.rules.specs.Tree.{Head, Chain, Name, if◌then◌else◌, ◌is◌, name_of, is_end, below, unnumbered}
+use Rattle.std.specs.Prelude.{◌≡◌, ℕ, ◌≤◌, Bool, true, false, not, ◌&&◌, ◌||◌, ◌⊎◌, List, [], ◌∷◌, length, ◌==◌, if◌then◌else◌}
+use Rattle.rules.specs.Tree.{Head, Chain, Name, ◌is◌, name_of, is_end, below, unnumbered}
 use Rattle.rules.specs.Tree.Chain.{end, link}
 use Rattle.rules.specs.Kinds.{fn_declaration, class_declaration, literal, asm_symbol}
 use Rattle.rules.specs.Refusals.{Outcome}
@@ -31,13 +31,13 @@ abbrev pub begun_on : Handed → State
 begun_on words = begun (start words false)
 
 -- the tree of a state, where the check takes it
-abbrev pub tree_of : Outcome Chain → Chain
-tree_of (fine tree) = tree
-tree_of (refused number at) = end
+abbrev pub outcome_tree : Outcome Chain → Chain
+outcome_tree (fine tree) = tree
+outcome_tree (refused number at) = end
 
 -- what a list of calls leaves of a caller's tree
 abbrev pub left_by : Config → List Call → Handed → Chain
-left_by k cs words = tree_of (final k cs (begun_on words)).tree
+left_by k cs words = outcome_tree (final k cs (begun_on words)).tree
 
 -- ORDER
 
@@ -186,7 +186,7 @@ abbrev pub RepeatsKept : Config → List Call → Handed → Type 0
 RepeatsKept k cs words =
     (a : After Answer) → In a (calls k cs (begun_on words))
     → (passes first : ℕ) → a.answer ≡ repeat_answer (repeated passes first)
-    → RepeatKept k passes first (tree_of a.state.tree)
+    → RepeatKept k passes first (outcome_tree a.state.tree)
 
 -- THE LAW
 

@@ -5,8 +5,8 @@
 --   declared, declared_below           the names declared in a tree, and below a record
 --   exported                           the names that an Export declaration declares
 -- A list of names is a list of the records that bear them where a refusal has to name the record.
-use Rattle.std.specs.Prelude.{Bool, false, not, ◌&&◌, ◌||◌, List, [], ◌∷◌, ◌++◌, ◌==◌}
-use Rattle.rules.specs.Tree.{Head, Chain, Name, if◌then◌else◌, ◌is◌, name_of}
+use Rattle.std.specs.Prelude.{Bool, false, not, ◌&&◌, ◌||◌, List, [], ◌∷◌, ◌++◌, ◌==◌, if◌then◌else◌}
+use Rattle.rules.specs.Tree.{Head, Chain, Name, ◌is◌, name_of}
 use Rattle.rules.specs.Tree.Chain.{end, link}
 use Rattle.rules.specs.Kinds.{member, definition_expression, specifier, export_default, fn_declaration, class_declaration, var_declaration, catch_part, declarator, function, constructor, arrow, name_pattern, compound_pattern, default_pattern, property_name}
 

@@ -4,13 +4,13 @@
 --   Place, place_inside     where a record stands
 --   can_drop_binding, can_drop_assignment_to      a name's declaration can go; an Assignment to it can
 --   entered                 the records that the rules enter
---   .. -goes, .. -emptied, restates, yields, unwraps      the test of each rule, of a record after its children
+--   .. _goes, .. _emptied, .. _restates, .. _yields, .. _unwraps      the test of each rule, of a record after its children
 --   Verdict, verdict, done  what a rule does with a record; which one; what is left
 --   treat                   a chain, each record after its children
 --   taken, gave             the names whose declaration a rule took; those of which an Assignment gave way
 -- In a test h is the record, `found` its children as found, `children` as they are left.
-use Rattle.std.specs.Prelude.{ℕ, Bool, true, false, not, ◌&&◌, ◌||◌, List, [], ◌∷◌, ◌++◌, ◌==◌}
-use Rattle.rules.specs.Tree.{Head, Chain, Name, if◌then◌else◌, ◌is◌, flagged, name_of, is_end, below, after, first_is, first_flagged, first_symbol, first_name, alone, append}
+use Rattle.std.specs.Prelude.{ℕ, Bool, true, false, not, ◌&&◌, ◌||◌, List, [], ◌∷◌, ◌++◌, ◌==◌, if◌then◌else◌}
+use Rattle.rules.specs.Tree.{Head, Chain, Name, ◌is◌, flagged, name_of, is_end, below, after, first_is, first_flagged, first_symbol, first_name, alone, append}
 use Rattle.rules.specs.Tree.Chain.{end, link}
 use Rattle.rules.specs.Kinds.{member, statement, expression, pattern, module_root, script_root, import_item, specifier, export_declaration, export_default, empty_statement, block, expression_statement, plain_statement, fn_declaration, class_declaration, var_declaration, for_statement, with_statement, declarator, function, method, property, static_block, identifier, literal, function_expression, plain_expression, object, call_expression, delete_expression, assignment, name_pattern, asm_symbol}
 use Rattle.rules.specs.Names.{among}

@@ -4,8 +4,8 @@
 --   reach, leads, component  the same, computed; the names that share a component (Tarjan 1972)
 --   has_other, has_entry, led_into, closed      a closed ring
 --   minus, less, discount    what a closed ring's names lose
-use Rattle.std.specs.Prelude.{◌≡◌, ℕ, ◌+◌, ◌-◌, ◌%◌, ◌^◌, Bool, false, not, ◌&&◌, ◌||◌, ◌⊎◌, List, [], ◌∷◌}
-use Rattle.rules.specs.Tree.{Name, if◌then◌else◌}
+use Rattle.std.specs.Prelude.{◌≡◌, ℕ, ◌+◌, ◌-◌, ◌%◌, ◌^◌, Bool, false, not, ◌&&◌, ◌||◌, ◌⊎◌, List, [], ◌∷◌, if◌then◌else◌}
+use Rattle.rules.specs.Tree.{Name}
 use Rattle.rules.specs.Names.{same, among}
 use Rattle.rules.specs.Tables.{NameRow, EdgeRow, Counts, some_row}
 

@@ -5,9 +5,9 @@
 --   some_row, need, change          the one text of all tables: is it there; it is there, comes last or the table is full; it changes
 --   look                            a name's row; a missing one reads as a fresh one
 --   declare, enter, fill            the declared names; one event; all events
---   table, .. -in-words, read_declared      rows as the caller's words
-use Rattle.std.specs.Prelude.{ℕ, suc, ◌+◌, ◌-◌, ◌*◌, ◌/◌, Bool, true, false, ◌&&◌, ◌||◌, List, [], ◌∷◌, ◌++◌, length, drop, replicate, ◌==◌, nat_lt}
-use Rattle.rules.specs.Tree.{Head, Name, if◌then◌else◌, name_of}
+--   table, .. _in_words, read_declared      rows as the caller's words
+use Rattle.std.specs.Prelude.{ℕ, suc, ◌+◌, ◌-◌, ◌*◌, ◌/◌, Bool, true, false, ◌&&◌, ◌||◌, List, [], ◌∷◌, ◌++◌, length, drop, replicate, ◌==◌, nat_lt, if◌then◌else◌}
+use Rattle.rules.specs.Tree.{Head, Name, name_of}
 use Rattle.rules.specs.Refusals.{Outcome, and_then, declared_full, names_full, edges_full}
 use Rattle.rules.specs.Refusals.Outcome.{fine, refused}
 use Rattle.rules.specs.Names.{same}

@@ -1,15 +1,14 @@
 -- The tree: records in chains. Every other page cites it; it assumes nothing.
 --
 --   Head, Chain, Name          a record without its links; records in their chains; what a record is called by
---   _is_, flagged, name_of      a record's kind, flag and name
---   is_end, below, after        a chain that has ended; the first record's children; what follows the first record
+--   ◌is◌, flagged, name_of     a record's kind, flag and name
+--   is_end, below, after       a chain that has ended; the first record's children; what follows the first record
 --   first_is, first_flagged, first_symbol, first_name      the first record of a chain, where there is one
 --   alone, append              the first record without what follows; one chain after another
 --   reached, unnumbered        how many records; the same with record numbers apart
-use Rattle.std.specs.Prelude.{ℕ, ◌+◌, Bool, true, false, cond, ◌==◌}
+use Rattle.std.specs.Prelude.{ℕ, ◌+◌, Bool, true, false, ◌==◌}
 
 infix 40 ◌is◌
-infixr 20 if◌then◌else◌
 -- a record without its links: its number and its first four words
 pub record Head : Type 0 where
   pub number : ℕ
@@ -27,10 +26,6 @@ pub data Chain : Type 0 where
 pub record Name : Type 0 where
   pub symbol : ℕ
   pub mark : ℕ
-
--- one of two
-abbrev pub if◌then◌else◌ : {A : Type 0} → Bool → A → A → A
-if b then x else y = cond b x y
 
 -- a record is of a kind
 abbrev pub ◌is◌ : Head → ℕ → Bool

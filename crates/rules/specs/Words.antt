@@ -1,10 +1,10 @@
 -- The caller's words as records: six words a record, records counted from 1.
 --
 --   word, first_child, next, head_at, records      reading a record
---   stands                                        a record is there, and of some kind
+--   stands                                         a record is there, and of some kind
 --   Holds, tree_of, Whole                          the chain that a link leads to
-use Rattle.std.specs.Prelude.{◌≡◌, ℕ, zero, suc, ◌+◌, ◌-◌, ◌*◌, ◌/◌, Bool, true, ◌&&◌, List, length, ◌==◌, slice_index}
-use Rattle.rules.specs.Tree.{Head, Chain, if◌then◌else◌}
+use Rattle.std.specs.Prelude.{◌≡◌, ℕ, zero, suc, ◌+◌, ◌-◌, ◌*◌, ◌/◌, Bool, true, ◌&&◌, List, length, ◌==◌, slice_index, if◌then◌else◌}
+use Rattle.rules.specs.Tree.{Head, Chain}
 use Rattle.rules.specs.Tree.Chain.{end, link}
 use Rattle.rules.specs.Kinds.{within, known}
 

@@ -36,66 +36,66 @@ zeros_less w n tail =
     ∙ ap (λ x. x ++ tail) (drop-replicate w (suc n * w) 0)
     ∙ ap (λ k. replicate k 0 ++ tail) (let q : suc n * w - w ≡ n * w = omega arith in q)
 
-module _ {Row : Type 0} (w : ℕ) (in_words_lem : Row → List ℕ) (some : 0 < w) where
+module _ {Row : Type 0} (w : ℕ) (in_words : Row → List ℕ) (some : 0 < w) where
   -- the words of the rows
-  pub joined_length : (rs : List Row) → Proper w in_words_lem rs → length (flat_map in_words_lem rs) ≡ length rs * w
+  pub joined_length : (rs : List Row) → Proper w in_words rs → length (flat_map in_words rs) ≡ length rs * w
   joined_length [] p = sym (zero-mul w)
   joined_length (r ∷ rs) p =
-      let a = length-append (in_words_lem r) (flat_map in_words_lem rs) in
+      let a = length-append (in_words r) (flat_map in_words rs) in
       let b = joined_length rs p.2 in
       let c = suc-mul (length rs) w in
       let d = p.0 in omega arith
 
   -- words that begin with rows
-  pub joined_rows : (rs : List Row) (t : List ℕ) → Proper w in_words_lem rs → rows w (flat_map in_words_lem rs ++ t) ≡ map in_words_lem rs ++ rows w t
+  pub joined_rows : (rs : List Row) (t : List ℕ) → Proper w in_words rs → rows w (flat_map in_words rs ++ t) ≡ map in_words rs ++ rows w t
   joined_rows [] t p = refl
   joined_rows (r ∷ rs) t p =
-      ap (rows w) (append_assoc (in_words_lem r) (flat_map in_words_lem rs) t)
-      ∙ rows_cons w (in_words_lem r) (flat_map in_words_lem rs ++ t) some p.0 p.1
-      ∙ ap (λ x. in_words_lem r ∷ x) (joined_rows rs t p.2)
+      ap (rows w) (append_assoc (in_words r) (flat_map in_words rs) t)
+      ∙ rows_cons w (in_words r) (flat_map in_words rs ++ t) some p.0 p.1
+      ∙ ap (λ x. in_words r ∷ x) (joined_rows rs t p.2)
 
-  joined_push : (rs : List Row) (r : Row) → flat_map in_words_lem (rs ++ (r ∷ [])) ≡ flat_map in_words_lem rs ++ in_words_lem r
-  joined_push [] r = append-nil (in_words_lem r)
-  joined_push (x ∷ rs) r = ap (λ y. in_words_lem x ++ y) (joined_push rs r) ∙ sym (append_assoc (in_words_lem x) (flat_map in_words_lem rs) (in_words_lem r))
+  joined_push : (rs : List Row) (r : Row) → flat_map in_words (rs ++ (r ∷ [])) ≡ flat_map in_words rs ++ in_words r
+  joined_push [] r = append-nil (in_words r)
+  joined_push (x ∷ rs) r = ap (λ y. in_words x ++ y) (joined_push rs r) ∙ sym (append_assoc (in_words x) (flat_map in_words rs) (in_words r))
 
-  proper_push : (rs : List Row) (r : Row) → Proper w in_words_lem rs → length (in_words_lem r) ≡ w → 0 < get_or (in_words_lem r) 0 0 → Proper w in_words_lem (rs ++ (r ∷ []))
+  proper_push : (rs : List Row) (r : Row) → Proper w in_words rs → length (in_words r) ≡ w → 0 < get_or (in_words r) 0 0 → Proper w in_words (rs ++ (r ∷ []))
   proper_push [] r p l f = (l, f, tt)
   proper_push (x ∷ rs) r p l f = (p.0, p.1, proper_push rs r p.2 l f)
 
   -- the form of a table's words
-  pub table_form : (found : List ℕ) (rs : List Row) → Proper w in_words_lem rs
-      → table w (flat_map in_words_lem rs) found ≡ flat_map in_words_lem rs ++ zeros w (length found / w - length rs) (drop (length found / w * w) found)
+  pub table_form : (found : List ℕ) (rs : List Row) → Proper w in_words rs
+      → table w (flat_map in_words rs) found ≡ flat_map in_words rs ++ zeros w (length found / w - length rs) (drop (length found / w * w) found)
   table_form found rs p =
       let whole = length found / w in
       let a = joined_length rs p in
       let b = mul-sub w whole (length rs) in
-      let e : whole * w - length (flat_map in_words_lem rs) ≡ (whole - length rs) * w = omega arith in
-      ap (λ k. flat_map in_words_lem rs ++ replicate k 0 ++ drop (whole * w) found) e
-      ∙ append_assoc (flat_map in_words_lem rs) (replicate ((whole - length rs) * w) 0) (drop (whole * w) found)
+      let e : whole * w - length (flat_map in_words rs) ≡ (whole - length rs) * w = omega arith in
+      ap (λ k. flat_map in_words rs ++ replicate k 0 ++ drop (whole * w) found) e
+      ∙ append_assoc (flat_map in_words rs) (replicate ((whole - length rs) * w) 0) (drop (whole * w) found)
 
-  module _ (found : List ℕ) (rs : List Row) (words : List ℕ) (h : Holds w in_words_lem found rs words) where
+  module _ (found : List ℕ) (rs : List Row) (words : List ℕ) (h : Holds w in_words found rs words) where
     -- the words of a table that holds rows
-    pub holds_form : words ≡ flat_map in_words_lem rs ++ zeros w (length found / w - length rs) (drop (length found / w * w) found)
+    pub holds_form : words ≡ flat_map in_words rs ++ zeros w (length found / w - length rs) (drop (length found / w * w) found)
     holds_form = h.is ∙ table_form found rs h.proper
 
     -- its rows are these
-    pub holds_rows : rows w words ≡ map in_words_lem rs
+    pub holds_rows : rows w words ≡ map in_words rs
     holds_rows =
         ap (rows w) holds_form
         ∙ joined_rows rs (zeros w (length found / w - length rs) (drop (length found / w * w) found)) h.proper
-        ∙ ap (λ x. map in_words_lem rs ++ x) (zeros_none w (length found / w - length rs) (drop (length found / w * w) found) some (tail_short w found some))
-        ∙ append-nil (map in_words_lem rs)
+        ∙ ap (λ x. map in_words rs ++ x) (zeros_none w (length found / w - length rs) (drop (length found / w * w) found) some (tail_short w found some))
+        ∙ append-nil (map in_words rs)
 
     -- as many as these
     pub holds_used : used w words ≡ length rs
-    holds_used = ap length holds_rows ∙ length-map rs in_words_lem
+    holds_used = ap length holds_rows ∙ length-map rs in_words
 
     -- it is as long as it was found
     pub holds_length : length words ≡ length found
     holds_length =
         let whole = length found / w in
         let a = ap length holds_form in
-        let b = length-append (flat_map in_words_lem rs) (zeros w (whole - length rs) (drop (whole * w) found)) in
+        let b = length-append (flat_map in_words rs) (zeros w (whole - length rs) (drop (whole * w) found)) in
         let c = length-append (replicate ((whole - length rs) * w) 0) (drop (whole * w) found) in
         let d = length-replicate {A = ℕ} ((whole - length rs) * w) 0 in
         let e = joined_length rs h.proper in
@@ -106,21 +106,21 @@ module _ {Row : Type 0} (w : ℕ) (in_words_lem : Row → List ℕ) (some : 0 < 
         omega arith
 
     -- the words of its rows, and those behind them
-    holds_front : take (used w words * w) words ≡ flat_map in_words_lem rs
+    holds_front : take (used w words * w) words ≡ flat_map in_words rs
     holds_front =
         let e = ap (λ k. k * w) holds_used in
         let l = joined_length rs h.proper in
-        ap (take (used w words * w)) holds_form ∙ take_at (flat_map in_words_lem rs) _ (used w words * w) (omega arith)
+        ap (take (used w words * w)) holds_form ∙ take_at (flat_map in_words rs) _ (used w words * w) (omega arith)
 
     holds_back : drop (used w words * w) words ≡ zeros w (length found / w - length rs) (drop (length found / w * w) found)
     holds_back =
         let e = ap (λ k. k * w) holds_used in
         let l = joined_length rs h.proper in
-        ap (drop (used w words * w)) holds_form ∙ drop_at (flat_map in_words_lem rs) _ (used w words * w) (omega arith)
+        ap (drop (used w words * w)) holds_form ∙ drop_at (flat_map in_words rs) _ (used w words * w) (omega arith)
 
     -- a row put behind the last takes the place of the first row of zeros
-    pub holds_more : (r : Row) → length rs < length found / w → length (in_words_lem r) ≡ w → 0 < get_or (in_words_lem r) 0 0
-        → Holds w in_words_lem found (rs ++ (r ∷ [])) (put_row (used w words * w) (in_words_lem r) words)
+    pub holds_more : (r : Row) → length rs < length found / w → length (in_words r) ≡ w → 0 < get_or (in_words r) 0 0
+        → Holds w in_words found (rs ++ (r ∷ [])) (put_row (used w words * w) (in_words r) words)
     holds_more r fits l f =
         let whole = length found / w in
         let tail = drop (whole * w) found in
@@ -131,13 +131,13 @@ module _ {Row : Type 0} (w : ℕ) (in_words_lem : Row → List ℕ) (some : 0 < 
           proper = p;
           room = omega arith;
           is =
-              ap (λ x. x ++ (in_words_lem r ++ drop (length (in_words_lem r)) (drop (used w words * w) words))) holds_front
-              ∙ ap (λ x. flat_map in_words_lem rs ++ (in_words_lem r ++ x))
-              (ap (drop (length (in_words_lem r))) holds_back
+              ap (λ x. x ++ (in_words r ++ drop (length (in_words r)) (drop (used w words * w) words))) holds_front
+              ∙ ap (λ x. flat_map in_words rs ++ (in_words r ++ x))
+              (ap (drop (length (in_words r))) holds_back
               ∙ ap (λ j. drop j (zeros w (whole - length rs) tail)) l
               ∙ ap (λ j. drop w (zeros w j tail)) k
               ∙ zeros_less w (whole - length (rs ++ (r ∷ []))) tail)
-              ∙ sym (append_assoc (flat_map in_words_lem rs) (in_words_lem r) (zeros w (whole - length (rs ++ (r ∷ []))) tail))
+              ∙ sym (append_assoc (flat_map in_words rs) (in_words r) (zeros w (whole - length (rs ++ (r ∷ []))) tail))
               ∙ ap (λ x. x ++ zeros w (whole - length (rs ++ (r ∷ []))) tail) (sym (joined_push rs r))
               ∙ sym (table_form found (rs ++ (r ∷ [])) p);
         }
@@ -163,13 +163,13 @@ module _ {Row : Type 0} (w : ℕ) (in_words_lem : Row → List ℕ) (some : 0 < 
         let m = mul-sub w whole (length rs) in
         let n = mul-le (length rs) w whole w h.room (omega arith) in
         let d = length-replicate {A = ℕ} ((whole - length rs) * w) 0 in
-        let c = length-append (flat_map in_words_lem rs) (replicate ((whole - length rs) * w) 0) in
+        let c = length-append (flat_map in_words rs) (replicate ((whole - length rs) * w) 0) in
         let q : length words / w * w ≡ whole * w = ap (λ k. k / w * w) holds_length in
         let past : drop (whole * w) words ≡ tail =
-        ap (drop (whole * w)) (holds_form ∙ sym (append_assoc (flat_map in_words_lem rs) (replicate ((whole - length rs) * w) 0) tail))
-        ∙ drop_at (flat_map in_words_lem rs ++ replicate ((whole - length rs) * w) 0) tail (whole * w) (omega arith) in
+        ap (drop (whole * w)) (holds_form ∙ sym (append_assoc (flat_map in_words rs) (replicate ((whole - length rs) * w) 0) tail))
+        ∙ drop_at (flat_map in_words rs ++ replicate ((whole - length rs) * w) 0) tail (whole * w) (omega arith) in
         ap (λ k. [] ++ replicate (k - 0) 0 ++ drop k words) q ∙ ap (λ x. [] ++ replicate (whole * w - 0) 0 ++ x) past
 
   -- zeroed words hold no rows
-  pub zeroed_holds : (found : List ℕ) → Holds w in_words_lem found [] (zeroed w found)
+  pub zeroed_holds : (found : List ℕ) → Holds w in_words found [] (zeroed w found)
   zeroed_holds found = record { proper = tt; room = omega arith; is = refl }

@@ -1,10 +1,11 @@
 -- The three tables against the book. Each statement is one about tables that hold rows, at the words of the table's rows;
 -- what is proved here besides is that those words are the book's, and that keys of rows are the book's tests.
+use Rattle.std.specs.Prelude.{if◌then◌else◌}
 use Rattle.std.proofs.Common.{◌≡◌, ℕ, ◌+◌, ◌-◌, ◌*◌, ◌/◌, ◌<◌, ◌≤◌, Bool, true, false, ◌&&◌, eqb, ltb, List, [], ◌∷◌, ◌++◌, map, length, get_or, is_some, Some, None, Ok, Err, Option, Result, sym, refl, ap, ◌∙◌, subst, inl, ⊎_elim, arith}
 use Rattle.std.specs.List.{flat_map}
 use Rattle.std.proofs.lemmas.List.{length-map}
 use Rattle.std.proofs.lemmas.Bool.{cond-true, cond-false, cases_Bool, eqb-true, eqb-false, ltb-true, and_from}
-use Rattle.rules.specs.Tree.{Name, if◌then◌else◌}
+use Rattle.rules.specs.Tree.{Name}
 use Rattle.rules.specs.Refusals.{declared_full, names_full, edges_full}
 use Rattle.rules.specs.Refusals.Outcome.{fine, refused}
 use Rattle.rules.specs.Names.{same}
@@ -28,15 +29,15 @@ use Rattle.tables.proofs.Changing.{holds_there, holds_word, holds_changed, nth_b
 use Rattle.tables.proofs.Numbering.{first_map, first_some, first_at, first_alike, Agree, numbered_first, look_first, number_positive, numbers_same, present_more, number_more, number_named, present_named}
 
 -- a row that passes is there, or comes last
-module _ {Row : Type 0} (is_it : Row → Bool) (new : Row) (w : ℕ) (in_words_lem : Row → List ℕ) (found : List ℕ) (full at : ℕ) (rs : List Row) (t : List ℕ)
-    (some : 0 < w) (h : Holds w in_words_lem found rs t) (long : length (in_words_lem new) ≡ w) (first : 0 < get_or (in_words_lem new) 0 0) (is_new : is_it new ≡ true) where
+module _ {Row : Type 0} (is_it : Row → Bool) (new : Row) (w : ℕ) (in_words : Row → List ℕ) (found : List ℕ) (full at : ℕ) (rs : List Row) (t : List ℕ)
+    (some : 0 < w) (h : Holds w in_words found rs t) (long : length (in_words new) ≡ w) (first : 0 < get_or (in_words new) 0 0) (is_new : is_it new ≡ true) where
   -- a row is free exactly if the book has space
   same_test : free w t ≡ ltb (length rs) (length found / w)
   same_test =
-      ap (λ n. ltb n (length t / w)) (holds_used w in_words_lem some found rs t h)
-      ∙ ap (λ n. ltb (length rs) (n / w)) (holds_length w in_words_lem some found rs t h)
+      ap (λ n. ltb n (length t / w)) (holds_used w in_words some found rs t h)
+      ∙ ap (λ n. ltb (length rs) (n / w)) (holds_length w in_words some found rs t h)
 
-  by_answer : (o : Option ℕ) → first_row is_it rs ≡ o → Needed is_it new w in_words_lem found full at rs t o
+  by_answer : (o : Option ℕ) → first_row is_it rs ≡ o → Needed is_it new w in_words found full at rs t o
   by_answer (Some n) e = (
     e,
     cond-true (some_row is_it rs) (fine rs) (if ltb (length rs) (length found / w) then fine (rs ++ (new ∷ [])) else refused full at)
@@ -50,39 +51,39 @@ module _ {Row : Type 0} (is_it : Row → Bool) (new : Row) (w : ℕ) (in_words_l
         e,
         (λ (f : free w t ≡ true). (
           asked ∙ cond-true (ltb (length rs) space) (fine (rs ++ (new ∷ []))) (refused full at) (sym same_test ∙ f),
-          subst (Holds w in_words_lem found (rs ++ (new ∷ []))) (sym (cond-true (free w t) (put_row (used w t * w) (in_words_lem new) t) t f))
-              (holds_more w in_words_lem some found rs t h new (ltb-true (length rs) space (sym same_test ∙ f)) long first),
+          subst (Holds w in_words found (rs ++ (new ∷ []))) (sym (cond-true (free w t) (put_row (used w t * w) (in_words new) t) t f))
+              (holds_more w in_words some found rs t h new (ltb-true (length rs) space (sym same_test ∙ f)) long first),
           first_next is_it 0 rs [] new e is_new
-              ∙ ap Some (let u = holds_used w in_words_lem some found rs t h in let q : 0 + length rs + 1 ≡ used w t + 1 = omega arith in q),
+              ∙ ap Some (let u = holds_used w in_words some found rs t h in let q : 0 + length rs + 1 ≡ used w t + 1 = omega arith in q),
         )),
         (λ (f : free w t ≡ false). asked ∙ cond-false (ltb (length rs) space) (fine (rs ++ (new ∷ []))) (refused full at) (sym same_test ∙ f)),
       )
 
   -- at the answer of `find`
-  pub needed : (o : Option ℕ) → o ≡ first_row is_it rs → Needed is_it new w in_words_lem found full at rs t o
+  pub needed : (o : Option ℕ) → o ≡ first_row is_it rs → Needed is_it new w in_words found full at rs t o
   needed o e = by_answer o (sym e)
 
   -- what `need` answers and leaves
-  as_book : (fault : TableFault) → number fault ≡ full → place fault ≡ at → (o : Option ℕ) → Needed is_it new w in_words_lem found full at rs t o
-      → RowNeeded is_it new w in_words_lem found full at rs t (placed w (in_words_lem new) t o) (answered w fault t o)
+  as_book : (fault : TableFault) → number fault ≡ full → place fault ≡ at → (o : Option ℕ) → Needed is_it new w in_words found full at rs t o
+      → RowNeeded is_it new w in_words found full at rs t (placed w (in_words new) t o) (answered w fault t o)
   as_book fault nf pf (Some n) e = (rs, e.1, h, e.0)
   as_book fault nf pf None e =
       ⊎_elim
       (λ (f : free w t ≡ true).
-      subst (RowNeeded is_it new w in_words_lem found full at rs t (added w (in_words_lem new) t)) (sym (cond-true (free w t) (Ok (used w t + 1)) (Err fault) f))
+      subst (RowNeeded is_it new w in_words found full at rs t (added w (in_words new) t)) (sym (cond-true (free w t) (Ok (used w t + 1)) (Err fault) f))
       (let y = e.1 f in (rs ++ (new ∷ []), y.0, y.1, y.2)))
       (λ (f : free w t ≡ false).
-      subst (RowNeeded is_it new w in_words_lem found full at rs t (added w (in_words_lem new) t)) (sym (cond-false (free w t) (Ok (used w t + 1)) (Err fault) f)) (
+      subst (RowNeeded is_it new w in_words found full at rs t (added w (in_words new) t)) (sym (cond-false (free w t) (Ok (used w t + 1)) (Err fault) f)) (
         e.2 f ∙ ap (λ x. refused x at) (sym nf) ∙ ap (λ x. refused (number fault) x) (sym pf),
-        cond-false (free w t) (put_row (used w t * w) (in_words_lem new) t) t f,
+        cond-false (free w t) (put_row (used w t * w) (in_words new) t) t f,
       ))
       (cases_Bool (free w t))
 
-  pub need_told : (fault : TableFault) → number fault ≡ full → place fault ≡ at → (o : Option ℕ) → Needed is_it new w in_words_lem found full at rs t o
-      → (u : List ℕ) (r : Result ℕ TableFault) → r ≡ answered w fault t o → u ≡ placed w (in_words_lem new) t o → RowNeeded is_it new w in_words_lem found full at rs t u r
+  pub need_told : (fault : TableFault) → number fault ≡ full → place fault ≡ at → (o : Option ℕ) → Needed is_it new w in_words found full at rs t o
+      → (u : List ℕ) (r : Result ℕ TableFault) → r ≡ answered w fault t o → u ≡ placed w (in_words new) t o → RowNeeded is_it new w in_words found full at rs t u r
   need_told fault nf pf o e u r er eu =
-      subst (λ x. RowNeeded is_it new w in_words_lem found full at rs t x r) (sym eu)
-      (subst (RowNeeded is_it new w in_words_lem found full at rs t (placed w (in_words_lem new) t o)) (sym er) (as_book fault nf pf o e))
+      subst (λ x. RowNeeded is_it new w in_words found full at rs t x r) (sym eu)
+      (subst (RowNeeded is_it new w in_words found full at rs t (placed w (in_words new) t o)) (sym er) (as_book fault nf pf o e))
 
 -- DECLARED
 

@@ -1,7 +1,8 @@
 -- The first row that passes: where it stands, how it changes, and that the book's numbers of names are such rows.
+use Rattle.std.specs.Prelude.{if◌then◌else◌}
 use Rattle.std.proofs.Common.{◌≡◌, ℕ, suc, ◌+◌, ◌-◌, ◌<◌, ◌≤◌, Bool, true, false, ◌||◌, eqb, List, [], ◌∷◌, ◌++◌, map, length, is_some, Some, None, sym, refl, ap, ◌∙◌, ⊎_elim, arith}
 use Rattle.std.proofs.lemmas.Bool.{cond-true, cond-false, cases_Bool, both_ways, eq-eqb, ne_eqb, or_cases, or_left, or_right, cond_both}
-use Rattle.rules.specs.Tree.{Name, if◌then◌else◌}
+use Rattle.rules.specs.Tree.{Name}
 use Rattle.rules.specs.Names.{same}
 use Rattle.rules.specs.Tables.{NameRow, some_row, change, look, row_of, row_number}
 use Rattle.rules.proofs.SameNames.{same_eq, same_refl}

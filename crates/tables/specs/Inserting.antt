@@ -5,8 +5,7 @@
 --   OthersStay      the answers for all other keys
 --   HoldsMore       a table that held rows holds one more
 --   answered, placed      a row that is looked up, and put behind the last if it is not there: the answer, and the table left
-use Rattle.std.specs.Prelude.{◌≡◌, ℕ, ◌+◌, ◌<◌, Bool, true, false, List, [], ◌∷◌, ◌++◌, Some, None, Ok, Err, Option, Result, slice_index}
-use Rattle.rules.specs.Tree.{if◌then◌else◌}
+use Rattle.std.specs.Prelude.{◌≡◌, ℕ, ◌+◌, ◌<◌, Bool, true, false, List, [], ◌∷◌, ◌++◌, Some, None, Ok, Err, Option, Result, slice_index, if◌then◌else◌}
 use Rattle.tables.specs.declared.fault.TableFault.{TableFault}
 use Rattle.tables.specs.Living.{rows, used, free, behind, keyed, first_row, added}
 use Rattle.tables.specs.Held.{Holds}
@@ -18,8 +17,8 @@ ComesAlive width row t u =
 
 -- the key, which no row had, is found at the new row
 abbrev pub FoundThere : (List ℕ → Bool) → (width : ℕ) → (row t u : List ℕ) → Type 0
-FoundThere has_key_lem width row t u =
-    free width t ≡ true → 0 < slice_index row 0 → first_row has_key_lem (rows width t) ≡ None → first_row has_key_lem (rows width u) ≡ Some (used width t + 1)
+FoundThere has_key width row t u =
+    free width t ≡ true → 0 < slice_index row 0 → first_row has_key (rows width t) ≡ None → first_row has_key (rows width u) ≡ Some (used width t + 1)
 
 -- where nothing comes alive, every other key has the answer that it had
 abbrev pub OthersStay : {Key : Type 0} → (Key → Key → Bool) → (List ℕ → Key) → Key → (width : ℕ) → (t u : List ℕ) → Type 0

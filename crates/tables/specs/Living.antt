@@ -5,8 +5,7 @@
 --   keyed, first_row            a row has a key; the number of the first row that passes, from 1
 --   nth, change_nth             a row by its place, from 0; that row changed
 --   put_row, added              words with a row in the place of others; a table with a row after its last
-use Rattle.std.specs.Prelude.{◌≡◌, ℕ, zero, suc, ◌+◌, ◌-◌, ◌*◌, ◌/◌, ◌≤◌, Bool, true, ◌&&◌, List, [], ◌∷◌, ◌++◌, length, take, drop, Some, None, Option, ◌==◌, nat_le, nat_lt, slice_index}
-use Rattle.rules.specs.Tree.{if◌then◌else◌}
+use Rattle.std.specs.Prelude.{◌≡◌, ℕ, zero, suc, ◌+◌, ◌-◌, ◌*◌, ◌/◌, ◌≤◌, Bool, true, ◌&&◌, List, [], ◌∷◌, ◌++◌, length, take, drop, Some, None, Option, ◌==◌, nat_le, nat_lt, slice_index, if◌then◌else◌}
 
 -- so many rows, one after another
 unfoldable pub cut : (count width : ℕ) → List ℕ → List (List ℕ)

@@ -1,17 +1,17 @@
 -- The words of the three tables as the book's rows: what the operations of the tables come to in the book's words.
 --
 --   id_words, name_words, edge_words              the words of one row
---   DeclaredHeld, NamesHeld, EdgesHeld         a table's words are those of such rows
---   name_of_id, id_keyed, ends_keyed                 a key's name; the rows with a key, as `find` looks for them
+--   DeclaredHeld, NamesHeld, EdgesHeld            a table's words are those of such rows
+--   name_of_id, id_keyed, ends_keyed              a key's name; the rows with a key, as `find` looks for them
 --   numbered                                      the answer of `find` in the book's words
 --   Needed                                        `find` and `insert` are the book's `need`
---   RowNeeded                                    the answer of `need`, and what it leaves, are as the book says
+--   RowNeeded                                     the answer of `need`, and what it leaves, are as the book says
 --   Present, Known                                names that have rows, and edges between such names
 --   new_edge, ends_of, ends_words                 a new edge; the rows of its names; its words by those rows
 --   grown, shrunk, entered, marked, heavier       rows with their counts and flags changed
---   Declared-.., Names-.., Edges-..               statements about the three tables
-use Rattle.std.specs.Prelude.{◌≡◌, ℕ, ◌+◌, ◌-◌, ◌/◌, ◌<◌, ◌≤◌, Bool, true, false, ◌&&◌, List, [], ◌∷◌, ◌++◌, map, length, is_some, Some, None, Option, Result, MatchResult, ◌==◌, slice_index}
-use Rattle.rules.specs.Tree.{Name, if◌then◌else◌}
+--   Declared.., Names.., Edges..                  statements about the three tables
+use Rattle.std.specs.Prelude.{◌≡◌, ℕ, ◌+◌, ◌-◌, ◌/◌, ◌<◌, ◌≤◌, Bool, true, false, ◌&&◌, List, [], ◌∷◌, ◌++◌, map, length, is_some, Some, None, Option, Result, MatchResult, ◌==◌, slice_index, if◌then◌else◌}
+use Rattle.rules.specs.Tree.{Name}
 use Rattle.rules.specs.Refusals.{declared_full, names_full, edges_full}
 use Rattle.rules.specs.Refusals.Outcome.{fine, refused}
 use Rattle.rules.specs.Names.{same}
@@ -76,21 +76,21 @@ numbered n rs = if some_row (row_of n) rs then Some (row_number n rs) else None
 
 -- a row is needed of a table t that holds rows: it is the row that `find` gives, or else `insert` puts it last, if a row is free
 abbrev pub Needed : {Row : Type 0} → (Row → Bool) → Row → (width : ℕ) → (Row → List ℕ) → (found : List ℕ) → (full at : ℕ) → List Row → (t : List ℕ) → Option ℕ → Type 0
-Needed is_it new width in_words_lem found full at rs t (Some n) =
+Needed is_it new width in_words found full at rs t (Some n) =
     (first_row is_it rs ≡ Some n) × (need is_it new (length found / width) full at rs ≡ fine rs)
-Needed is_it new width in_words_lem found full at rs t None =
+Needed is_it new width in_words found full at rs t None =
     (first_row is_it rs ≡ None)
     × (free width t ≡ true →
     (need is_it new (length found / width) full at rs ≡ fine (rs ++ (new ∷ [])))
-    × Holds width in_words_lem found (rs ++ (new ∷ [])) (added width (in_words_lem new) t)
+    × Holds width in_words found (rs ++ (new ∷ [])) (added width (in_words new) t)
     × (first_row is_it (rs ++ (new ∷ [])) ≡ Some (used width t + 1)))
     × (free width t ≡ false → need is_it new (length found / width) full at rs ≡ refused full at)
 
 -- r answers which row was needed of a table t that holds rows, and u is what is left of the table: as the book says
 abbrev pub RowNeeded : {Row : Type 0} → (Row → Bool) → Row → (width : ℕ) → (Row → List ℕ) → (found : List ℕ) → (full at : ℕ) → List Row → (t u : List ℕ) → Result ℕ TableFault → Type 0
-RowNeeded {Row} is_it new width in_words_lem found full at rs t u r =
+RowNeeded {Row} is_it new width in_words found full at rs t u r =
     MatchResult r
-    (λ n. (more : List Row) × (need is_it new (length found / width) full at rs ≡ fine more) × Holds width in_words_lem found more u × (first_row is_it more ≡ Some n))
+    (λ n. (more : List Row) × (need is_it new (length found / width) full at rs ≡ fine more) × Holds width in_words found more u × (first_row is_it more ≡ Some n))
     (λ e. (need is_it new (length found / width) full at rs ≡ refused (number e) (place e)) × (u ≡ t))
 
 -- a name has a row

@@ -1,13 +1,14 @@
 -- The events of a formed tree speak of names that have a symbol. The table of kinds gives each record that bears a name a symbol that is not 0,
 -- and every event's name, and each of its holders, is the name of such a record.
 --
---   AllNamed                      each event's name and holders have a symbol
+--   AllNamed                       each event's name and holders have a symbol
 --   symbol_of                      a record of a kind that bears a name
 --   Signed, exported_signed ..     records that have a symbol
 --   count_named, events_named      the events of a chain, and of a tree
+use Rattle.std.specs.Prelude.{if◌then◌else◌}
 use Rattle.std.proofs.Common.{◌≡◌, ℕ, ◌<◌, Bool, true, false, not, ◌&&◌, ◌||◌, eqb, List, [], ◌∷◌, ◌++◌, sym, refl, ◌∙◌, subst, ⊎_elim, arith}
 use Rattle.std.proofs.lemmas.Bool.{cond_both, cond-true, and_parts, or_cases, eqb-true, eqb-false, not-true, both_ways}
-use Rattle.rules.specs.Tree.{Head, Chain, Name, if◌then◌else◌, ◌is◌, name_of}
+use Rattle.rules.specs.Tree.{Head, Chain, Name, ◌is◌, name_of}
 use Rattle.rules.specs.Tree.Chain.{end, link}
 use Rattle.rules.specs.Kinds.{member, known, definition_expression, specifier, export_declaration, fn_declaration, class_declaration, identifier, export_name, property_name, name_pattern, call_expression, var_declaration, declarator, function}
 use Rattle.rules.specs.Names.{among, names_of, distinct, binds, nests, keep, bound, Under, under, under_nothing, declares, declaring, declared_below, exported}

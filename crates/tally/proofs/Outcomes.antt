@@ -1,7 +1,7 @@
 -- Two outcomes side by side: results that are related, or one refusal; and a row that is needed of words and of the book's rows.
 --
 --   Alike, then_alike, then_alike_within, alike_then      outcomes side by side, and going on with their results
---   RowThere, RowPlaced, row_placed                     a row is there; a table's answer beside the book's
+--   RowThere, RowPlaced, row_placed                       a row is there; a table's answer beside the book's
 use Rattle.std.proofs.Common.{◌≡◌, ℕ, ◌+◌, ◌/◌, Bool, true, false, ◌⊎◌, List, [], ◌∷◌, ◌++◌, length, is_some, Some, None, Ok, Err, Option, Result, sym, refl, ap, ◌∙◌, subst, inl, inr, ⊎_elim}
 use Rattle.std.proofs.lemmas.Bool.{cases_Bool, cond-true, cond-false}
 use Rattle.rules.specs.Refusals.{Outcome, and_then}
@@ -46,24 +46,24 @@ alike_then R S (refused n a) (refused m b) g h k = h
 alike_then R S (fine a) (refused m b) g h k = absurd h
 alike_then R S (refused n a) (fine b) g h k = absurd h
 
-module _ {Row : Type 0} (is_it : Row → Bool) (new : Row) (width : ℕ) (in_words_lem : Row → List ℕ) (found : List ℕ) (rs : List Row) where
+module _ {Row : Type 0} (is_it : Row → Bool) (new : Row) (width : ℕ) (in_words : Row → List ℕ) (found : List ℕ) (rs : List Row) where
   -- rows with the one that is needed: it was there, or it comes last
   abbrev pub RowThere : List Row → Type 0
   RowThere more = (more ≡ rs) ⊎ ((some_row is_it rs ≡ false) × (more ≡ rs ++ (new ∷ [])))
 
   -- the row of a table's answer and the words that are left, beside the book's rows
   pub record RowPlaced (p : Placed) (more : List Row) : Type 0 where
-    pub held : Holds width in_words_lem found more p.words
+    pub held : Holds width in_words found more p.words
     pub first : first_row is_it more ≡ Some p.row
     pub there : RowThere more
 
   pub row_placed : (full at : ℕ) (t : List ℕ) (fault : TableFault) (o : Option ℕ) → number fault ≡ full → place fault ≡ at
-      → Holds width in_words_lem found rs t → Needed is_it new width in_words_lem found full at rs t o
-      → Alike RowPlaced (told (answered width fault t o) (placed width (in_words_lem new) t o)) (need is_it new (length found / width) full at rs)
+      → Holds width in_words found rs t → Needed is_it new width in_words found full at rs t o
+      → Alike RowPlaced (told (answered width fault t o) (placed width (in_words new) t o)) (need is_it new (length found / width) full at rs)
   row_placed full at t fault (Some n) nf pf h e =
       subst (Alike RowPlaced (fine (placed_at n t))) (sym e.1) (record { held = h; first = e.0; there = inl refl })
   row_placed full at t fault None nf pf h e =
-      let u = added width (in_words_lem new) t in
+      let u = added width (in_words new) t in
       let ok : Result ℕ TableFault = Ok (used width t + 1) in
       let not_there : some_row is_it rs ≡ false = sym (first_some is_it 0 rs) ∙ ap is_some e.0 in
       let book = need is_it new (length found / width) full at rs in

@@ -1,13 +1,14 @@
 -- Rows of names and edges as a count leaves them: each name has one row, edges join names that have rows, and counts stay so far below 2^32
 -- that what is still to be added fits. A new row keeps all this, and so does one event more in a row, which the words then hold.
 --
---   Light, LightEdges                       so much can still be added to each count
+--   Light, LightEdges                        so much can still be added to each count
 --   light-.., distinct-.., known-..          what a new row and a changed one keep
 --   grows, grows_edge                        what an event makes of its name's row, and of its edges'
 --   grown_is, heavier_is                     in words it is the same
+use Rattle.std.specs.Prelude.{if◌then◌else◌}
 use Rattle.std.proofs.Common.{◌≡◌, ℕ, zero, suc, ◌+◌, ◌^◌, ◌<◌, ◌≤◌, Bool, true, false, ◌||◌, List, [], ◌∷◌, ◌++◌, length, sym, refl, ap, ◌∙◌, subst, inl, inr, mod-eq_of_lt, arith}
 use Rattle.std.proofs.lemmas.Bool.{cases_Bool, both_ways, or_parts, or_from, or_right}
-use Rattle.rules.specs.Tree.{Name, if◌then◌else◌}
+use Rattle.rules.specs.Tree.{Name}
 use Rattle.rules.specs.Names.{same}
 use Rattle.rules.specs.Counting.{Event}
 use Rattle.rules.specs.Tables.{NameRow, EdgeRow, some_row, fresh, row_of, reads, writes}

@@ -2,8 +2,8 @@
 -- Words that hold the book's rows before a step hold them after it, or both are refused alike.
 --
 --   Rowed, rowed_less            words that hold rows to whose counts k can still be added
---   RowOfName, name_step          a name's row is needed
---   RowOfEdge, edge_step          an edge's row is needed
+--   RowOfName, name_step         a name's row is needed
+--   RowOfEdge, edge_step         an edge's row is needed
 --   edge_grows, name_grows       an edge grows, a name grows
 use Rattle.std.proofs.Common.{◌≡◌, ℕ, suc, ◌-◌, ◌/◌, ◌^◌, ◌<◌, ◌≤◌, Bool, true, false, List, [], ◌∷◌, length, is_some, Some, None, sym, refl, ap, ◌∙◌, subst, inl, inr, arith}
 use Rattle.std.proofs.lemmas.Bool.{cond-true}

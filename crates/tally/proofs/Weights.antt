@@ -5,10 +5,11 @@
 --   Shorter, shorter_holders        paths shorter than a number
 --   weight-++, weight_marks         the weight of one list after another, and of marks
 --   count_weight, counts_fit        the weight of a chain, and of a tree
+use Rattle.std.specs.Prelude.{if◌then◌else◌}
 use Rattle.std.proofs.Common.{◌≡◌, ℕ, zero, suc, ◌+◌, ◌*◌, ◌<◌, ◌≤◌, Bool, true, false, ◌&&◌, ◌||◌, leb, List, [], ◌∷◌, ◌++◌, length, refl, ap, add-mul, mul-add, arith}
 use Rattle.std.proofs.lemmas.List.{length-append}
 use Rattle.std.proofs.lemmas.Bool.{cond_both, and_parts, leb-true}
-use Rattle.rules.specs.Tree.{Head, Chain, Name, if◌then◌else◌, ◌is◌, name_of, reached}
+use Rattle.rules.specs.Tree.{Head, Chain, Name, ◌is◌, name_of, reached}
 use Rattle.rules.specs.Tree.Chain.{end, link}
 use Rattle.rules.specs.Kinds.{export_declaration, fn_declaration, class_declaration, identifier, export_name, property_name, name_pattern, call_expression, var_declaration, declarator, function, within}
 use Rattle.rules.specs.Names.{among, names_of, distinct, binds, nests, keep, bound, Under, under, under_nothing, declares, declaring, declared_below, exported}

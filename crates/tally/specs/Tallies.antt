@@ -2,8 +2,8 @@
 --
 --   weight               how much events can add to a count
 --   Told                 the words of names and edges beside the book's rows, or the same refusal
---   CountsFit           the events of a tree never bring a count to 2^32
---   FilledTold          the events of a tree, entered into words, give the book's rows
+--   CountsFit            the events of a tree never bring a count to 2^32
+--   FilledTold           the events of a tree, entered into words, give the book's rows
 use Rattle.std.specs.Prelude.{◌≡◌, ℕ, ◌+◌, ◌/◌, ◌^◌, ◌<◌, List, [], ◌∷◌, length}
 use Rattle.rules.specs.Tree.{Chain}
 use Rattle.rules.specs.Refusals.{Outcome}

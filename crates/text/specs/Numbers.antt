@@ -3,7 +3,7 @@
 --   digit, with_digit      a byte that writes a digit; a number with one more digit behind it
 --   number                 what a word writes
 --   numbers                what a line of words writes
---   written, ReadBack     numbers as they are written; reading gives them back
+--   written, ReadBack      numbers as they are written; reading gives them back
 use Rattle.std.specs.Prelude.{◌≡◌, ℕ, ◌+◌, ◌-◌, ◌*◌, ◌^◌, ◌<◌, Bool, cond, ◌&&◌, List, [], ◌∷◌, ◌++◌, Ok, Err, decimal, Result, nat_le, nat_lt}
 use Rattle.text.specs.declared.fault.Problem.{Problem}
 use Rattle.text.specs.declared.fault.Problem.TheVariants.{NotANumber, TooLarge}
