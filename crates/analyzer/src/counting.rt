@@ -95,7 +95,7 @@ impl Sort {
 }
 
 /// Counts what stands in the chain from the link on, and below it.
-#[cycle(visit_children_visit_class_visit_expression_visit_function_visit_inside_visit_node_visit_pattern_visit_statement)]
+#[cycle(visit)]
 fn visit_children(
     words: &[u32],
     first: u32,
@@ -136,7 +136,7 @@ fn visit_children(
 }
 
 /// Counts record `n` and what stands below it.
-#[cycle(visit_children_visit_class_visit_expression_visit_function_visit_inside_visit_node_visit_pattern_visit_statement)]
+#[cycle(visit)]
 fn visit_node(
     words: &[u32],
     n: u32,
@@ -178,7 +178,7 @@ fn visit_node(
 }
 
 /// Counts a statement, an item or a part of one: the names of an Export declaration first, the name of an Export name last.
-#[cycle(visit_children_visit_class_visit_expression_visit_function_visit_inside_visit_node_visit_pattern_visit_statement)]
+#[cycle(visit)]
 fn visit_statement(
     words: &[u32],
     n: u32,
@@ -213,7 +213,7 @@ fn visit_statement(
 }
 
 /// Counts what opens a scope, and on leaving it what the scope has noted.
-#[cycle(visit_children_visit_class_visit_expression_visit_function_visit_inside_visit_node_visit_pattern_visit_statement)]
+#[cycle(visit)]
 fn visit_function(
     words: &[u32],
     n: u32,
@@ -247,7 +247,7 @@ fn visit_function(
 }
 
 /// Counts a part of a class.
-#[cycle(visit_children_visit_class_visit_expression_visit_function_visit_inside_visit_node_visit_pattern_visit_statement)]
+#[cycle(visit)]
 fn visit_class(
     words: &[u32],
     n: u32,
@@ -275,7 +275,7 @@ fn visit_class(
 }
 
 /// Counts an expression: an Identifier reads its name, a Call may call `eval`.
-#[cycle(visit_children_visit_class_visit_expression_visit_function_visit_inside_visit_node_visit_pattern_visit_statement)]
+#[cycle(visit)]
 fn visit_expression(
     words: &[u32],
     n: u32,
@@ -310,7 +310,7 @@ fn visit_expression(
 }
 
 /// Counts a pattern or a part of one.
-#[cycle(visit_children_visit_class_visit_expression_visit_function_visit_inside_visit_node_visit_pattern_visit_statement)]
+#[cycle(visit)]
 fn visit_pattern(
     words: &[u32],
     n: u32,
@@ -339,7 +339,7 @@ fn visit_pattern(
 }
 
 /// Counts the children of a record, with what surrounds them.
-#[cycle(visit_children_visit_class_visit_expression_visit_function_visit_inside_visit_node_visit_pattern_visit_statement)]
+#[cycle(visit)]
 fn visit_inside(
     words: &[u32],
     node: Record,

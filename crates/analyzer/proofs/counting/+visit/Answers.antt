@@ -4,7 +4,7 @@ use Rattle.rules.specs.Words.{tree_of}
 use Rattle.analyzer.specs.Scopes.{here}
 use Rattle.analyzer.specs.Walk.{state, walk}
 use Rattle.analyzer.proofs.Walks.{walk_on}
-use Rattle.analyzer.proofs.counting.+visit_children_visit_class_visit_expression_visit_function_visit_inside_visit_node_visit_pattern_visit_statement.Goals as goal
+use Rattle.analyzer.proofs.counting.+visit.Goals as goal
 
 pub visit_children-loop-n-preserved : goal.visit_children-loop-n-preserved
 visit_children-loop-n-preserved t c =

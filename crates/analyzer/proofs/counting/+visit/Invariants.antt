@@ -8,7 +8,7 @@ use Rattle.rules.specs.Words.{tree_of}
 use Rattle.records.specs.Cursor.{Along}
 use Rattle.analyzer.specs.Scopes.{here}
 use Rattle.analyzer.specs.Walk.{state, walk}
-use Rattle.analyzer.proofs.counting.+visit_children_visit_class_visit_expression_visit_function_visit_inside_visit_node_visit_pattern_visit_statement.Given as goal
+use Rattle.analyzer.proofs.counting.+visit.Given as goal
 
 abbrev pub decreases-visit_children : goal.decreases-visit_children
 decreases-visit_children l = 4 * l.left
