@@ -18,7 +18,7 @@ use Rattle.analyzer.specs.declared.counting.Sort.TheVariants.{Statement, Functio
 use Rattle.analyzer.specs.declared.fault.CountFault.{CountFault}
 use Rattle.analyzer.specs.declared.notes.Notes.{Notes}
 use Rattle.analyzer.specs.declared.scope.Scope.{Scope}
-use Rattle.analyzer.specs.CountFaults.{number as fault-number, place as fault-place}
+use Rattle.analyzer.specs.CountFaults.{number as fault_number, place as fault_place}
 use Rattle.analyzer.specs.Scopes.{Here, here, outermost_scope, here_inside, no_notes, with_eval}
 use Rattle.analyzer.specs.Walk.{State, state, Went, referred, read_exports, named, left_scope, sort_of, visited_by, walk}
 use Rattle.analyzer.proofs.Bridge.{and_then_alike, and_then_assoc, and_then_fine, Scoped, seen, inside_scoped, inside_seen, entering, entering_then, entering_nothing, referred_is, named_is, exports_are, leave_is}
@@ -258,7 +258,7 @@ events_refused f s o number at e is-refused = refused_back (fill_words f.events 
 
 from_outermost : {A : Type 0} (tree : Chain) (path : List Id) (names edges : List ℕ) (u : State) (result : Result A CountFault)
     → Went (walk (here outermost_scope path) tree (state names edges no_notes)) result u
-    → MatchResult result (λ _. fill_words (events_of tree) (tables names edges) ≡ fine u.tables) (λ e. fill_words (events_of tree) (tables names edges) ≡ refused (fault-number e) (fault-place e))
+    → MatchResult result (λ _. fill_words (events_of tree) (tables names edges) ≡ fine u.tables) (λ e. fill_words (events_of tree) (tables names edges) ≡ refused (fault_number e) (fault_place e))
 from_outermost tree path names edges u (Ok x) e =
     events_fine (count outermost tree) (state names edges no_notes) u _ (walk_counts outermost tree (state names edges no_notes) tt) e
 from_outermost tree path names edges u (Err fault) e =
@@ -267,7 +267,7 @@ from_outermost tree path names edges u (Err fault) e =
 -- a walk of a tree from the outermost scope ends as its events do
 pub tree_counted : {A : Type 0} (tree : Chain) (scope : Scope) (path : List Id) (names edges : List ℕ) (notes : Notes) (u : State) (result : Result A CountFault)
     → scope ≡ outermost_scope → notes ≡ no_notes → Went (walk (here scope path) tree (state names edges notes)) result u
-    → MatchResult result (λ _. fill_words (events_of tree) (tables names edges) ≡ fine u.tables) (λ e. fill_words (events_of tree) (tables names edges) ≡ refused (fault-number e) (fault-place e))
+    → MatchResult result (λ _. fill_words (events_of tree) (tables names edges) ≡ fine u.tables) (λ e. fill_words (events_of tree) (tables names edges) ≡ refused (fault_number e) (fault_place e))
 tree_counted tree scope path names edges notes u result is-outermost is_none went =
     from_outermost tree path names edges u result
     (subst (λ (x : Notes). Went (walk (here outermost_scope path) tree (state names edges x)) result u) is_none

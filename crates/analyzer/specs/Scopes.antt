@@ -3,7 +3,7 @@
 --   role_of, one, id_of_head                     the code's role, current name and key as the book's
 --   Here, here, held_with, here_inside           what surrounds a place, by the names that hold a reference there
 --   outermost_scope                              what surrounds the root
---   no_notes, with_arguments, with_eval, outward what the innermost scope has noted
+--   no_notes, with_arguments, with_eval, outward      what the innermost scope has noted
 use Rattle.std.specs.Prelude.{Bool, true, false, ◌&&◌, ◌||◌, List, [], ◌∷◌, ◌++◌, take, drop, Some, None, Option, ◌==◌, if◌then◌else◌}
 use Rattle.rules.specs.Tree.{Head, Name, ◌is◌, name_of}
 use Rattle.rules.specs.Kinds.{fn_declaration, class_declaration, arrow, arguments_symbol}

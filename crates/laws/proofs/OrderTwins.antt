@@ -1,9 +1,9 @@
 -- Where a run begins: two trees that the check takes and that differ only in the order of items are twins, by what the check says of each.
 --
---   Orderly, orderly_treated a tree formed by the table of kinds, each record once, without 'use asm'; what is left of it is such
+--   Orderly, orderly_treated      a tree formed by the table of kinds, each record once, without 'use asm'; what is left of it is such
 --   Twins                    such trees, roots over the same items in another order
 --   rooted_as                a checked tree is one root, of its kind, over its items
---   formed_items, root_items its items are no expressions, each with its own number
+--   formed_items, root_items      its items are no expressions, each with its own number
 --   reordered_twins          the two trees of the law
 use Rattle.std.specs.Prelude.{if◌then◌else◌}
 use Rattle.std.proofs.Common.{◌≡◌, ℕ, Bool, true, false, ◌||◌, eqb, leb, List, [], ◌∷◌, sym, refl, ◌∙◌, subst, subst₂, inl, inr, arith}

@@ -1,6 +1,6 @@
 // The names that a tree declares, with the records that bear them.
 ghost use Rattle.std.specs.Prelude.{◌≡◌, [], ◌++◌, IfOk, OnOk};
-ghost use Rattle.rules.specs.Names.{binding as binds-below, binds, nests, keep, under, declares, declaring, declared};
+ghost use Rattle.rules.specs.Names.{binding as binds_below, binds, nests, keep, under, declares, declaring, declared};
 ghost use Rattle.rules.specs.Words.{tree_of, Whole};
 ghost use Rattle.records.specs.KindWords.{kind_word};
 ghost use Rattle.records.specs.Reads.{head_of};
@@ -95,7 +95,7 @@ impl Under {
 
 // A Declarator, a Catch, and what has parameters: their patterns bind.
 fn is_binding(node: Record) -> bool
-    ensures { result ≡ binds-below (head_of 0 node) }
+    ensures { result ≡ binds_below (head_of 0 node) }
 {
     matches!(
         node.kind,

@@ -7,7 +7,7 @@ use Rattle.rules.specs.Names.{among}
 use Rattle.rules.specs.Tables.{NameRow, EdgeRow, row_number}
 use Rattle.rules.specs.Rings.{component}
 use Rattle.rules.specs.Rings.{Edge as NameEdge, Leads as NameLeads}
-use Rattle.rules.specs.Rings.Leads.{here as name-here, onward as name-onward}
+use Rattle.rules.specs.Rings.Leads.{here as name_here, onward as name_onward}
 use Rattle.rules.proofs.SameNames.{same_eq}
 use Rattle.rules.proofs.Leading.{component_told}
 use Rattle.tables.specs.Living.{nth}
@@ -41,8 +41,8 @@ module _ (names : List NameRow) where
       x
 
   leads_node : {es : List EdgeRow} {a b : Name} → NameLeads es a b → Leads (pairs names es) (node names a) (node names b)
-  leads_node name-here = here
-  leads_node {es} (name-onward {b} {c} l x) = onward (leads_node l) (edge_node b c es x)
+  leads_node name_here = here
+  leads_node {es} (name_onward {b} {c} l x) = onward (leads_node l) (edge_node b c es x)
 
   -- an edge between nodes is a row of edges
   pub record RowOfEdge (es : List EdgeRow) (k : ℕ) : Type 0 where
@@ -77,7 +77,7 @@ module _ (names : List NameRow) where
     leads : NameLeads es a name
 
   reached : {es : List EdgeRow} {a : Name} {j : ℕ} → Known names es → Present names a → Leads (pairs names es) (node names a) j → Reached es a j
-  reached {es} {a} known pa here = record { name = a; present = pa; node_is = refl; leads = name-here }
+  reached {es} {a} known pa here = record { name = a; present = pa; node_is = refl; leads = name_here }
   reached {es} {a} known pa (onward l x) =
       let g = reached known pa l in
       let e = edge_row es x.at known x.within in
@@ -86,7 +86,7 @@ module _ (names : List NameRow) where
         name = e.row.to;
         present = e.to_present;
         node_is = sym e.target_is ∙ x.enters;
-        leads = name-onward g.leads (subst (λ (m : Name). NameEdge es m e.row.to) one e.joins);
+        leads = name_onward g.leads (subst (λ (m : Name). NameEdge es m e.row.to) one e.joins);
       }
 
   leads_name : (es : List EdgeRow) (a b : Name) → Known names es → Present names a → Present names b → Leads (pairs names es) (node names a) (node names b) → NameLeads es a b
@@ -103,8 +103,8 @@ module _ (names : List NameRow) where
       x
 
   leads_present : {es : List EdgeRow} {a b : Name} → Known names es → Present names a → NameLeads es a b → Present names b
-  leads_present known pa name-here = pa
-  leads_present {es} known pa (name-onward {b} {c} l x) = edge_present es b c known x
+  leads_present known pa name_here = pa
+  leads_present {es} known pa (name_onward {b} {c} l x) = edge_present es b c known x
 
   pub component_present : (es : List EdgeRow) (a b : Name) → Known names es → Present names a → among b (component es a) ≡ true → Present names b
   component_present es a b known pa h = leads_present known pa ((component_told es a b).0 h).0

@@ -2,7 +2,7 @@
 -- and no way through it is longer than its records are many: so the fuel of `tree_of` reads all of it. Where a chain was
 -- read whole, more fuel reads the same, and so the chain at a record is made of the chains at its two links.
 --
---   read-back, tree_is_read                        what the words hold is what `tree_of` reads
+--   read_back, tree_is_read                        what the words hold is what `tree_of` reads
 --   tree_end, whole_end                            the link 0
 --   opens, stands_opens                            the link to a record
 --   level_depth, tree_depth                        how deep a checked tree is

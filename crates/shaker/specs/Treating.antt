@@ -1,4 +1,4 @@
--- What is asked of a record and of a chain before it is treated. The contracts of the tests and of `treat` cite it.
+-- What is asked of a record and of a chain before it is treated. The contracts of the tests and of the trait `Basis` cite it.
 --
 --   entered_by, entered_first      the rules enter a record; the first of a chain
 --   place_below                    the place of the first record's children

@@ -1,4 +1,4 @@
--- What a rule does with a record, and what is left of it. The contracts of `choose` and `perform` cite it.
+-- What a rule does with a record, and what is left of it. The contracts of `perform` and of the trait `Basis` cite it.
 --
 --   verdict_of      the book's verdict, without the names
 --   left_of         what is left of a record: one record, or none

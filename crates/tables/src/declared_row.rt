@@ -3,7 +3,7 @@ ghost use Rattle.rules.specs.Refusals.{declared_full};
 ghost use Rattle.rules.specs.Tree.{Name};
 ghost use Rattle.rules.specs.Names.{same};
 ghost use Rattle.rules.specs.Tables.{declared_width};
-ghost use Rattle.tables.specs.declared.fault.TableFault.TheVariants.{Declared as table-full};
+ghost use Rattle.tables.specs.declared.fault.TableFault.TheVariants.{Declared as table_full};
 ghost use Rattle.tables.specs.Living.{rows, there, first_row};
 ghost use Rattle.tables.specs.Inserting.{answered, placed};
 ghost use Rattle.tables.specs.Matching.{id_words, name_of_id, id_keyed, DeclaredHeld, RowNeeded};
@@ -29,7 +29,7 @@ impl Row for Declared {
 
     ghost fresh = { λ k. k.symbol ∷ k.mark ∷ [] };
 
-    ghost full = { table-full };
+    ghost full = { table_full };
 
     ghost some = { zero-lt-suc 1 };
 
@@ -60,7 +60,7 @@ impl Row for Declared {
 impl Declared {
     /// The row of a name, put behind the last row if it is not there. `at` is the record that bears the name.
     pub fn need(declared: &mut [u32], id: Id, at: u32) -> Result<usize, TableFault>
-        ensures row { result ≡ answered declared_width (table-full at) declared.old (first_row (id_keyed id) (rows declared_width declared.old)) }
+        ensures row { result ≡ answered declared_width (table_full at) declared.old (first_row (id_keyed id) (rows declared_width declared.old)) }
         ensures there { IfOk result (λ n. (there declared_width declared.new n ≡ true) × (n ≤ length declared.new)) }
         ensures words { declared.new ≡ placed declared_width (id_words (name_of_id id)) declared.old (first_row (id_keyed id) (rows declared_width declared.old)) }
         ensures book { (found : List ℕ) (ns : List Name) → 0 < id.symbol → DeclaredHeld found ns declared.old → RowNeeded (same (name_of_id id)) (name_of_id id) declared_width id_words found declared_full at ns declared.old declared.new result }

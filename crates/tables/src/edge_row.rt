@@ -2,7 +2,7 @@ ghost use Rattle.std.specs.Prelude.{◌≡◌, ℕ, ◌≤◌, true, false, List
 ghost use Rattle.rules.specs.Refusals.{edges_full};
 ghost use Rattle.rules.specs.Tree.{Name};
 ghost use Rattle.rules.specs.Tables.{NameRow, EdgeRow, edge_of, row_number, edges_width};
-ghost use Rattle.tables.specs.declared.fault.TableFault.TheVariants.{Edges as table-full};
+ghost use Rattle.tables.specs.declared.fault.TableFault.TheVariants.{Edges as table_full};
 ghost use Rattle.tables.specs.Living.{rows, there, first_row};
 ghost use Rattle.tables.specs.Inserting.{answered, placed};
 ghost use Rattle.tables.specs.Held.{changed};
@@ -31,7 +31,7 @@ impl Row for Edges {
 
     ghost fresh = { λ k. k.from ∷ k.to ∷ 0 ∷ 0 ∷ [] };
 
-    ghost full = { table-full };
+    ghost full = { table_full };
 
     ghost some = { zero-lt-suc 3 };
 
@@ -62,7 +62,7 @@ impl Row for Edges {
 impl Edges {
     /// The row of an edge, put behind the last row if it is not there. `at` is the record that needs it.
     pub fn need(edges: &mut [u32], edge: Edge, at: u32) -> Result<usize, TableFault>
-        ensures row { result ≡ answered edges_width (table-full at) edges.old (first_row (ends_keyed edge) (rows edges_width edges.old)) }
+        ensures row { result ≡ answered edges_width (table_full at) edges.old (first_row (ends_keyed edge) (rows edges_width edges.old)) }
         ensures there { IfOk result (λ n. (there edges_width edges.new n ≡ true) × (n ≤ length edges.new)) }
         ensures words { edges.new ≡ placed edges_width (ends_words edge) edges.old (first_row (ends_keyed edge) (rows edges_width edges.old)) }
         ensures book { (names : List NameRow) (found : List ℕ) (es : List EdgeRow) (a b : Name) → Known names es → Present names a → Present names b → edge.from ≡ row_number a names → edge.to ≡ row_number b names → EdgesHeld names found es edges.old → RowNeeded (edge_of a b) (new_edge a b) edges_width (edge_words names) found edges_full at es edges.old edges.new result }

@@ -1,7 +1,7 @@
 ghost use Rattle.std.specs.Prelude.{◌≡◌, ℕ, ◌<◌, ◌≤◌, true, false, not, ◌&&◌, List, [], ◌∷◌, length, IfOk, MatchOption, ◌==◌, slice_index, refl};
 ghost use Rattle.rules.specs.Refusals.{names_full};
 ghost use Rattle.rules.specs.Tables.{NameRow, fresh, row_of, names_width};
-ghost use Rattle.tables.specs.declared.fault.TableFault.TheVariants.{Names as table-full};
+ghost use Rattle.tables.specs.declared.fault.TableFault.TheVariants.{Names as table_full};
 ghost use Rattle.tables.specs.Living.{rows, there, first_row};
 ghost use Rattle.tables.specs.Held.{changed};
 ghost use Rattle.tables.specs.Inserting.{answered, placed};
@@ -35,7 +35,7 @@ impl Row for Names {
 
     ghost fresh = { λ k. k.symbol ∷ k.mark ∷ 0 ∷ 0 ∷ 0 ∷ 0 ∷ [] };
 
-    ghost full = { table-full };
+    ghost full = { table_full };
 
     ghost some = { zero-lt-suc 5 };
 
@@ -66,7 +66,7 @@ impl Row for Names {
 impl Names {
     /// The row of a name, put behind the last row if it is not there. `at` is the record that needs it.
     pub fn need(names: &mut [u32], id: Id, at: u32) -> Result<usize, TableFault>
-        ensures row { result ≡ answered names_width (table-full at) names.old (first_row (id_keyed id) (rows names_width names.old)) }
+        ensures row { result ≡ answered names_width (table_full at) names.old (first_row (id_keyed id) (rows names_width names.old)) }
         ensures there { IfOk result (λ n. (there names_width names.new n ≡ true) × (n ≤ length names.new)) }
         ensures words { names.new ≡ placed names_width (name_words (fresh (name_of_id id))) names.old (first_row (id_keyed id) (rows names_width names.old)) }
         ensures book { (found : List ℕ) (rs : List NameRow) → 0 < id.symbol → NamesHeld found rs names.old → RowNeeded (row_of (name_of_id id)) (fresh (name_of_id id)) names_width name_words found names_full at rs names.old names.new result }

@@ -2,7 +2,7 @@
 -- that what is still to be added fits. A new row keeps all this, and so does one event more in a row, which the words then hold.
 --
 --   Light, LightEdges                        so much can still be added to each count
---   light-.., distinct-.., known-..          what a new row and a changed one keep
+--   light_.., distinct_.., known_..          what a new row and a changed one keep
 --   grows, grows_edge                        what an event makes of its name's row, and of its edges'
 --   grown_is, heavier_is                     in words it is the same
 use Rattle.std.specs.Prelude.{if◌then◌else◌}
