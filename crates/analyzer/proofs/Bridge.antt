@@ -2,6 +2,8 @@
 -- What surrounds a place in the book is seen as the code holds it: of the scopes' paths, the names that hold a reference there, and whether the innermost is empty.
 -- What is found in a part of the tree is entered into a state; one part after another is entered one after another.
 use Rattle.std.specs.Prelude.{if◌then◌else◌}
+use Rattle.names.proofs.Folding.{and_then_alike}
+use Rattle.std.proofs.Math.Bool.{or-false}
 use Rattle.std.proofs.Common.{◌≡◌, Bool, true, false, ◌&&◌, ◌||◌, eqb, List, [], ◌∷◌, ◌++◌, length, sym, refl, ap, ◌∙◌, append_assoc, arith}
 use Rattle.std.proofs.lemmas.Bool.{ne_eqb}
 use Rattle.rules.specs.Tree.{Head, Chain, Name, ◌is◌, name_of, unnumbered_head}
@@ -21,10 +23,6 @@ use Rattle.analyzer.specs.Scopes.{Here, held_with, here_inside, no_notes}
 use Rattle.analyzer.specs.Walk.{State, none_hold, referred, named, leaving, left_scope}
 
 -- what goes on alike ends alike
-pub and_then_alike : {A B : Type 0} (o : Outcome A) (f g : A → Outcome B) → ((a : A) → f a ≡ g a) → and_then o f ≡ and_then o g
-and_then_alike (fine a) f g same = same a
-and_then_alike (refused number at) f g same = refl
-
 pub and_then_assoc : {A B C : Type 0} (o : Outcome A) (f : A → Outcome B) (g : B → Outcome C) → and_then (and_then o f) g ≡ and_then o (λ a. and_then (f a) g)
 and_then_assoc (fine a) f g = refl
 and_then_assoc (refused number at) f g = refl
@@ -32,10 +30,6 @@ and_then_assoc (refused number at) f g = refl
 pub and_then_fine : {A : Type 0} (o : Outcome A) → and_then o (λ a. fine a) ≡ o
 and_then_fine (fine a) = refl
 and_then_fine (refused number at) = refl
-
-or_false : (a : Bool) → (a || false) ≡ a
-or_false true = refl
-or_false false = refl
 
 or_assoc : (a b c : Bool) → (a || (b || c)) ≡ ((a || b) || c)
 or_assoc true b c = refl
@@ -153,8 +147,8 @@ entering_then f g s =
 
 pub entering_nothing : (s : State) → entering nothing s ≡ fine s
 entering_nothing s =
-    ap (λ (x : Bool). fine (noted s.tables x (s.notes.found_direct_eval || false))) (or_false s.notes.found_arguments)
-    ∙ ap (λ (x : Bool). fine (noted s.tables s.notes.found_arguments x)) (or_false s.notes.found_direct_eval)
+    ap (λ (x : Bool). fine (noted s.tables x (s.notes.found_direct_eval || false))) (or-false s.notes.found_arguments)
+    ∙ ap (λ (x : Bool). fine (noted s.tables s.notes.found_arguments x)) (or-false s.notes.found_direct_eval)
 
 unheld_ids : (ns : List Name) → none_hold (ids_of ns) ≡ unheld ns
 unheld_ids [] = refl
@@ -166,9 +160,9 @@ referred_by : (b : Bool) (e : Event) (arguments : Bool) (s : State)
     else and_then (enter_words e s.tables) (λ t. fine (noted t (s.notes.found_arguments || arguments) s.notes.found_direct_eval)))
     ≡ entering (record { events = if b then [] else e ∷ []; found_arguments = arguments; found_direct_eval = false }) s
 referred_by true e arguments s =
-    ap (λ (x : Bool). fine (noted s.tables (s.notes.found_arguments || arguments) x)) (sym (or_false s.notes.found_direct_eval))
+    ap (λ (x : Bool). fine (noted s.tables (s.notes.found_arguments || arguments) x)) (sym (or-false s.notes.found_direct_eval))
 referred_by false e arguments s =
-    ap (λ (x : Bool). and_then (enter_words e s.tables) (λ t. fine (noted t (s.notes.found_arguments || arguments) x))) (sym (or_false s.notes.found_direct_eval))
+    ap (λ (x : Bool). and_then (enter_words e s.tables) (λ t. fine (noted t (s.notes.found_arguments || arguments) x))) (sym (or-false s.notes.found_direct_eval))
     ∙ ap (λ (o : Outcome Tables). and_then o (λ t. fine (noted t (s.notes.found_arguments || arguments) (s.notes.found_direct_eval || false)))) (sym (and_then_fine (enter_words e s.tables)))
 
 pub referred_is : (a : Around) (writes : Bool) (h : Head) (s : State) → referred (seen a) writes h s ≡ entering (reference a writes h) s

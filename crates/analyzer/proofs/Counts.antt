@@ -1,6 +1,7 @@
 -- The code's walk is the book's count, entered: by induction over the chain, and for each record by its kind.
 -- Eight kinds do something before, after or around their children; for each of them the tests compute. Any other is walked through, whatever its sort.
 use Rattle.std.specs.Prelude.{if◌then◌else◌}
+use Rattle.std.proofs.Math.Bool.{or-false}
 use Rattle.std.proofs.Common.{◌≡◌, ℕ, Bool, true, false, ◌&&◌, ◌||◌, eqb, List, Ok, Err, Result, sym, refl, ap, ◌∙◌, subst, ⊎_elim, arith, MatchResult}
 use Rattle.std.proofs.lemmas.Bool.{cond-false, cases_Bool, eqb-true, or_from}
 use Rattle.rules.specs.Tree.{Head, Chain, ◌is◌, unnumbered_head}
@@ -21,7 +22,8 @@ use Rattle.analyzer.specs.declared.scope.Scope.{Scope}
 use Rattle.analyzer.specs.CountFaults.{number as fault_number, place as fault_place}
 use Rattle.analyzer.specs.Scopes.{Here, here, outermost_scope, here_inside, no_notes, with_eval}
 use Rattle.analyzer.specs.Walk.{State, state, Went, referred, read_exports, named, left_scope, sort_of, visited_by, walk}
-use Rattle.analyzer.proofs.Bridge.{and_then_alike, and_then_assoc, and_then_fine, Scoped, seen, inside_scoped, inside_seen, entering, entering_then, entering_nothing, referred_is, named_is, exports_are, leave_is}
+use Rattle.names.proofs.Folding.{and_then_alike}
+use Rattle.analyzer.proofs.Bridge.{and_then_assoc, and_then_fine, Scoped, seen, inside_scoped, inside_seen, entering, entering_then, entering_nothing, referred_is, named_is, exports_are, leave_is}
 
 -- what a record gives before its children, and what its children give as it is left
 abbrev before : Around → Head → Chain → Found
@@ -47,13 +49,9 @@ three o p f g k l first second third =
     ap (λ (x : Outcome State). and_then x (λ u. k u)) (second t)
     ∙ and_then_alike (g t) (λ u. k u) (λ u. l u) third)
 
-or_false : (a : Bool) → (a || false) ≡ a
-or_false true = refl
-or_false false = refl
-
 -- no direct call of `eval` is noted
 no_eval : (s : State) → fine (record { tables = s.tables; notes = with_eval false s.notes }) ≡ fine s
-no_eval s = ap (λ (b : Bool). fine (record { tables = s.tables; notes = record { found_arguments = s.notes.found_arguments; found_direct_eval = b } })) (or_false s.notes.found_direct_eval)
+no_eval s = ap (λ (b : Bool). fine (record { tables = s.tables; notes = record { found_arguments = s.notes.found_arguments; found_direct_eval = b } })) (or-false s.notes.found_direct_eval)
 
 -- a sort by the tests after the first
 never_function : (b d e : Bool) → (if b then Class else if d then Expression else if e then Pattern else Statement) ≡ Function → ⊥
@@ -117,7 +115,7 @@ module _ (a : Around) (n flags symbol mark : ℕ) (children : Chain) (below : He
       (λ t. below (here_inside (seen a) (unnumbered_head (head 34))) t) (λ t. entering inner t)
       (λ u. fine (record { tables = u.tables; notes = with_eval (calls_eval children) u.notes })) (λ u. entering (own a (head 34) children) u)
       (sym (entering_nothing s)) walked
-      (λ u. ap (λ (b : Bool). fine (record { tables = u.tables; notes = record { found_arguments = b; found_direct_eval = u.notes.found_direct_eval || calls_eval children } })) (sym (or_false u.notes.found_arguments)))
+      (λ u. ap (λ (b : Bool). fine (record { tables = u.tables; notes = record { found_arguments = b; found_direct_eval = u.notes.found_direct_eval || calls_eval children } })) (sym (or-false u.notes.found_arguments)))
 
   at_name_pattern : Visits 37
   unfolding sort_of

@@ -1,11 +1,13 @@
-ghost use Rattle.std.specs.Prelude.{◌≡◌, ℕ, ◌≤◌, List, MatchResult};
-ghost use Rattle.rules.specs.Calls.{zeroed};
+ghost use Rattle.std.specs.Prelude.{◌≡◌, ℕ, ◌/◌, ◌≤◌, true, false, List, [], length, MatchResult};
+ghost use Rattle.rules.specs.Calls.{zeroed, declared_after};
+ghost use Rattle.rules.specs.Calls as book;
 ghost use Rattle.rules.specs.Check.{most_nesting};
 ghost use Rattle.rules.specs.Held.{Tree};
 ghost use Rattle.rules.specs.Names.{declared};
 ghost use Rattle.rules.specs.Opening.{depth};
 ghost use Rattle.rules.specs.Refusals.Outcome.{fine, refused};
-ghost use Rattle.rules.specs.Tables.{declared_width};
+ghost use Rattle.rules.specs.Tables.{Room, declared_width, read_declared};
+ghost use Rattle.rules.specs.Tree.{Chain};
 ghost use Rattle.rules.specs.Words.{tree_of, Whole};
 ghost use Rattle.names.specs.Sinks.{each};
 ghost use Rattle.tables.specs.Faults.{number as number_of, place as place_of};
@@ -76,6 +78,15 @@ fn collect_decls(words: &[u32], first: u32, left: u32, table: &mut [u32]) -> Res
     declared_names(words, first, left, &mut declaring)
 }
 
+/// Whether the table has a row. Such a table is filled, whatever the tree; another reads as no names.
+fn is_filled(table: &[u32]) -> bool
+    ensures rows { result ≡ true → (tree : Chain) (space : Room) → space.declared ≡ length table.now / declared_width → book.fill_declared space tree (read_declared table.now) ≡ fine (read_declared table.now) }
+    ensures words { result ≡ true → table.now ≡ declared_after (read_declared table.now) (read_declared table.now) table.now }
+    ensures none { result ≡ false → read_declared table.now ≡ [] }
+{
+    has_row::<Declared>(table)
+}
+
 /// Fills the table of the declared names from the tree, unless it has a row. A table that is too short is left without rows.
 pub fn fill_declared(words: &[u32], table: &mut [u32]) -> Result<(), TableFault>
     requires tree { Tree words.now (tree_of words.now 1) }
@@ -83,7 +94,7 @@ pub fn fill_declared(words: &[u32], table: &mut [u32]) -> Result<(), TableFault>
     requires deep { depth (tree_of words.now 1) ≤ most_nesting }
     ensures { MatchResult result (λ _. FilledDeclared (tree_of words.now 1) table.old table.new) (λ e. FullDeclared (tree_of words.now 1) (number_of e) (place_of e) table.old table.new) }
 {
-    if has_row::<Declared>(table) {
+    if is_filled(table) {
         return Ok(());
     }
     zero_rows::<Declared>(table);

@@ -1,3 +1,3 @@
-mod Tells
+pub mod Tells
 mod Holders
 mod Counted

@@ -1,6 +1,6 @@
 -- Names marked as they come are the book's marks, entered one after another into the words of names and edges; a mark has no holder, so edges stay.
 -- Where memory has room for every name that comes, marking those that were not noted is marking each once.
-use Rattle.std.proofs.Common.{◌≡◌, ℕ, ◌+◌, ◌*◌, ◌/◌, ◌≤◌, min, Bool, true, false, not, List, [], ◌∷◌, ◌++◌, length, Ok, Err, Result, sym, refl, ap, ◌∙◌, subst, ⊎_elim, arith, length-append, MatchResult}
+use Rattle.std.proofs.Common.{◌≡◌, ℕ, ◌+◌, ◌*◌, ◌/◌, ◌≤◌, min, Bool, true, false, not, List, [], ◌∷◌, ◌++◌, length, Ok, Err, Result, sym, refl, ap, ◌∙◌, ⊎_elim, arith, length-append, MatchResult}
 use Rattle.std.proofs.lemmas.Bool.{cond-true, cond-false, cases_Bool}
 use Rattle.rules.specs.Tree.{Head, Name, Chain, name_of, reached}
 use Rattle.rules.specs.Tree.Chain.{end, link}
@@ -11,24 +11,11 @@ use Rattle.rules.specs.Refusals.Outcome.{fine, refused}
 use Rattle.tables.specs.declared.fault.TableFault.{TableFault}
 use Rattle.tables.specs.Faults.{number, place}
 use Rattle.names.specs.Sinks.{each}
-use Rattle.data.specs.Events.{placed_at, told, Tables, tables, entered}
+use Rattle.data.specs.Events.{Tables, tables, entered}
 use Rattle.data.specs.Filling.{fill_words, enter_words}
 use Rattle.marks.specs.Noting.{noted, names_to, noted_names, is_new, note}
 use Rattle.marks.specs.Marking.{mark_name, Marking, marking, mark_each, Once, once, mark_once}
 use Rattle.marks.proofs.Noting.{noted_more}
-
--- what a table answered and left is told
-told_itself : (r : Result ℕ TableFault) (words : List ℕ)
-    → MatchResult r (λ n. told r words ≡ fine (placed_at n words)) (λ e. told r words ≡ refused (number e) (place e))
-told_itself (Ok n) words = refl
-told_itself (Err e) words = refl
-
-pub told_as : (r x : Result ℕ TableFault) (words more : List ℕ) → r ≡ x → words ≡ more
-    → MatchResult r (λ n. told x more ≡ fine (placed_at n words)) (λ e. told x more ≡ refused (number e) (place e))
-told_as r x words more rx wm =
-    subst (λ (m : List ℕ). MatchResult r (λ n. told x m ≡ fine (placed_at n words)) (λ e. told x m ≡ refused (number e) (place e))) wm
-    (subst (λ (y : Result ℕ TableFault). MatchResult r (λ n. told y words ≡ fine (placed_at n words)) (λ e. told y words ≡ refused (number e) (place e))) rx
-    (told_itself r words))
 
 -- what was marked, beside edges
 beside : (edges : List ℕ) → Outcome (List ℕ) → Outcome Tables

@@ -11,7 +11,7 @@ use Rattle.names.specs.Sinks.{each}
 use Rattle.names.specs.NameWalks.{taken, walk_bound, walk_declared, exports, exports_below, walk_exported}
 
 -- what goes on alike ends alike
-and_then_alike : {A B : Type 0} (o : Outcome A) (f g : A → Outcome B) → ((a : A) → f a ≡ g a) → and_then o f ≡ and_then o g
+pub and_then_alike : {A B : Type 0} (o : Outcome A) (f g : A → Outcome B) → ((a : A) → f a ≡ g a) → and_then o f ≡ and_then o g
 and_then_alike (fine a) f g same = same a
 and_then_alike (refused number at) f g same = refl
 

@@ -1,1 +1,1 @@
-mod Folding
+pub mod Folding

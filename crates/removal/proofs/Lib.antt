@@ -1,4 +1,2 @@
-mod Performs
-mod Deeps
 mod Treats
 mod Roots

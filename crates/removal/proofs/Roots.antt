@@ -5,6 +5,7 @@
 --   under_root                         the chain of its children
 --   entered_root, passed_root          what is left of a root that the rules enter, and of one that they do not
 use Rattle.std.proofs.Common.{◌≡◌, ℕ, Bool, true, false, ◌||◌, eqb, List, [], get_or, sym, refl, ap, ◌∙◌, subst, inl, inr, ⊎_elim, arith}
+use Rattle.std.proofs.Math.Bool.{or-false}
 use Rattle.std.proofs.lemmas.Bool.{both_ways, or_cases, eqb-true}
 use Rattle.rules.specs.Tree.{Head, Chain, below, append}
 use Rattle.rules.specs.Tree.Chain.{end, link}
@@ -23,8 +24,8 @@ use Rattle.laws.proofs.KeepsChecked.{checked_again}
 use Rattle.edit.specs.Slots.{owner, first_slot, Linked, Made}
 use Rattle.edit.proofs.Frames.{number_is, number_within, stands_same, head_same}
 use Rattle.edit.proofs.Moves.{then}
-use Rattle.verdicts.specs.Places.{entered_first, place_below}
-use Rattle.removal.specs.Treating.{Nested}
+use Rattle.shaker.specs.Treating.{entered_first, place_below}
+use Rattle.shaker.specs.Treating.{Nested}
 use Rattle.removal.proofs.Treats.{treats}
 
 -- a root's kind
@@ -83,10 +84,6 @@ pub record LeftAtRoot (by : By) (w v : List ℕ) (c : Chain) (changed : Bool) : 
   pub flag : changed ≡ (treat by at_root c).changed
   pub others : (j : ℕ) → (Numbers (owner j) c → ⊥) → get_or v j 0 ≡ get_or w j 0
 
-or_false : (x : Bool) → x ≡ (x || false)
-or_false true = refl
-or_false false = refl
-
 module _ (w : List ℕ) where
   -- the chain of its children
   pub under_root : (c : Chain) (s : ℕ) → s ≡ first_slot 1 → check w ≡ fine c → Nested w s most_nesting (below c)
@@ -120,7 +117,7 @@ module _ (w : List ℕ) where
         record {
           tree = checked_again by w v2 (link h ch end) e made.long
               (subst (λ (x : Left). Holds v2 1 (append x.chain end)) (sym here) (root_made w h ch t v2 (swept inner.chain) made));
-          flag = ea ∙ ap (λ (x : Place). (treat by x ch).changed) is_z ∙ or_false inner.changed ∙ ap (λ (x : Left). x.changed || false) (sym here);
+          flag = ea ∙ ap (λ (x : Place). (treat by x ch).changed) is_z ∙ sym (or-false inner.changed) ∙ ap (λ (x : Left). x.changed || false) (sym here);
           others = root_others w h ch t v2 (swept inner.chain) made;
         }
 

@@ -8,6 +8,7 @@
 --   half_at, half_asked, standing      the record halfway
 --   moved, passed_by, closed           a turn with a record that is entered; one with a record that is not; the end
 use Rattle.std.proofs.Common.{◌≡◌, ℕ, ◌-◌, ◌<◌, ◌≤◌, Bool, true, false, not, ◌||◌, List, get_or, sym, refl, ap, ◌∙◌, subst, arith}
+use Rattle.std.proofs.Math.Bool.{or-false}
 use Rattle.rules.specs.Tree.{Head, Chain, is_end, below, alone, append}
 use Rattle.rules.specs.Tree.Chain.{end, link}
 use Rattle.rules.specs.Words.{tree_of, Whole}
@@ -18,12 +19,13 @@ use Rattle.rules.specs.Removal.Verdict.{stays, sweeps, empties, unlinks, restate
 use Rattle.rules.proofs.Reading.{read_back}
 use Rattle.edit.specs.Slots.{first_slot, next_slot, Linked, Made, onto, Step}
 use Rattle.edit.proofs.Moves.{Going, to_go, turn, again, then, same, number_at, positive_at, child_by, beneath_by, ended}
-use Rattle.verdicts.specs.Places.{entered_first, place_below}
-use Rattle.verdicts.specs.Choices.{verdict_of, choice}
-use Rattle.verdicts.specs.declared.verdict.Verdict.{Verdict}
-use Rattle.removal.specs.Verdicts.{left_of, removes}
-use Rattle.removal.specs.Treating.{Nested}
-use Rattle.removal.proofs.Deeps.{treat_deep}
+use Rattle.shaker.specs.Treating.{entered_first, place_below}
+use Rattle.shaker.specs.Verdicts.{verdict_of}
+use Rattle.shaker.specs.Treating.{choice}
+use Rattle.shaker.specs.declared.perform.Verdict.{Verdict}
+use Rattle.shaker.specs.Verdicts.{left_of, removes}
+use Rattle.shaker.specs.Treating.{Nested}
+use Rattle.shaker.proofs.Deeps.{treat_deep}
 
 pub tree_at : (w : List ℕ) (i : ℕ) (c : Chain) → Linked w i c → tree_of w (get_or w i 0) ≡ c
 tree_at w i c at = (read_back w (get_or w i 0) c at.holds at.apart).0
@@ -44,10 +46,6 @@ done_left restates h inner = refl
 done_left (yields name) h inner = refl
 done_left unwraps h inner = refl
 
-or_false : (x : Bool) → x ≡ (x || false)
-or_false true = refl
-or_false false = refl
-
 or_true : (x : Bool) → true ≡ (x || true)
 or_true true = refl
 or_true false = refl
@@ -57,8 +55,8 @@ or_move true y z u = refl
 or_move false y z u = refl
 
 done_changed : (v : book.Verdict) (h : Head) (inner : Left) → (done v h inner).changed ≡ (inner.changed || removes (verdict_of v))
-done_changed stays h inner = or_false inner.changed
-done_changed sweeps h inner = or_false inner.changed
+done_changed stays h inner = sym (or-false inner.changed)
+done_changed sweeps h inner = sym (or-false inner.changed)
 done_changed (empties names) h inner = or_true inner.changed
 done_changed (unlinks name) h inner = or_true inner.changed
 done_changed restates h inner = or_true inner.changed
@@ -186,5 +184,5 @@ module _ (by : By) (p : Place) (w0 : List ℕ) (i0 : ℕ) (c : Chain) (w : List 
 
 pub closed : (by : By) (p : Place) (w0 : List ℕ) (i0 : ℕ) (c : Chain) (w : List ℕ) (i d : ℕ) (g : Bool) (todo : Chain) → get_or w i 0 ≡ 0 →
     Ongoing by p w0 i0 c w i d g todo → Made w0 w i0 c (treats by p c) × (g ≡ (treat by p c).changed)
-closed by p w0 i0 c w i d g end e go = (ended (treats by p) refl w0 i0 c w i e end go.going, or_false g ∙ go.flag)
+closed by p w0 i0 c w i d g end e go = (ended (treats by p) refl w0 i0 c w i e end go.going, sym (or-false g) ∙ go.flag)
 closed by p w0 i0 c w i d g (link h ch rest) e go = absurd (omega (arith, positive_at w i h ch rest go.going.at))

@@ -1,6 +1,5 @@
 #![tactic(auto)]
 
-pub mod perform;
 pub mod root;
 pub mod treat;
 

@@ -2,13 +2,13 @@ ghost use Rattle.std.specs.Prelude.{◌≡◌};
 ghost use Rattle.rules.specs.Tree.{Chain};
 ghost use Rattle.rules.specs.Removal as book;
 ghost use Rattle.edit.specs.Slots.{Made};
-ghost use Rattle.verdicts.specs.Places.{place_of};
+ghost use Rattle.shaker.specs.Places.{place_of};
 ghost use Rattle.verdicts.specs.Grounds.{by_of};
-ghost use Rattle.removal.specs.Treating.{Nested};
+ghost use Rattle.shaker.specs.Treating.{Nested};
 
-use crate::perform::{perform, removes};
 use edit::slots::{first_slot, next_slot};
 use judge::Judge;
+use shaker::perform::{perform, removes};
 use verdicts::look::has_children;
 use verdicts::{Place, TreeShaker};
 

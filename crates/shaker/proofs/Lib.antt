@@ -1,3 +1,3 @@
 mod Looks
 mod Performs
-mod Deeps
+pub mod Deeps

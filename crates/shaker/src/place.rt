@@ -110,7 +110,7 @@ impl Place {
 }
 
 /// Whether the children of such a record are a list of statements or items.
-fn has_list(kind: Kind) -> bool
+pub fn has_list(kind: Kind) -> bool
     ensures { result ≡ (kind_word kind == module_root || (kind_word kind == script_root || kind_word kind == block)) }
 {
     kind.is(Kind::Module) | (kind.is(Kind::Script) | kind.is(Kind::Block))

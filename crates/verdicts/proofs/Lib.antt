@@ -1,3 +1,2 @@
-mod Looks
 mod Members
 pub mod RowsRead

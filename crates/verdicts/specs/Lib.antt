@@ -1,4 +1,2 @@
-pub mod Places
 pub mod Grounds
-pub mod Choices
 pub mod Members

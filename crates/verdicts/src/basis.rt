@@ -4,10 +4,10 @@ ghost use Rattle.rules.specs.Names.{among};
 ghost use Rattle.rules.specs.Tables.{read_declared};
 ghost use Rattle.rules.specs.Removal.{permitted, can_drop_binding, can_drop_assignment_to};
 ghost use Rattle.tables.specs.Matching.{name_of_id};
-ghost use Rattle.verdicts.specs.Places.{place_of};
+ghost use Rattle.shaker.specs.Places.{place_of};
 ghost use Rattle.verdicts.specs.Grounds.{row_in_words, info_row, by_of, silent};
 
-use crate::place::Place;
+use shaker::place::Place;
 use tables::{Declared, Id, Names, find};
 
 /// The settings.

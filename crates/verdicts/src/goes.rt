@@ -4,13 +4,14 @@ ghost use Rattle.rules.specs.Words.{tree_of, Whole};
 ghost use Rattle.rules.specs.Removal.{name_goes, all_go, fn_goes, specifier_goes, import_emptied, var_emptied, var_restates};
 ghost use Rattle.records.specs.Reads.{head_of};
 ghost use Rattle.tables.specs.Matching.{name_of_id};
-ghost use Rattle.verdicts.specs.Places.{place_of};
+ghost use Rattle.shaker.specs.Places.{place_of};
 ghost use Rattle.verdicts.specs.Grounds.{by_of, silent};
 
 use crate::basis::Basis;
-use crate::look::{first_is, first_name, is_end};
-use crate::place::Place;
+use crate::look::first_name;
 use records::{Children, Kind, Record};
+use shaker::look::{first_is, is_end};
+use shaker::place::Place;
 use tables::Id;
 
 /// The name that a record bears.

@@ -3,12 +3,10 @@
 pub mod basis;
 pub mod goes;
 pub mod look;
-pub mod place;
-pub mod shaker;
-pub mod verdict;
+pub mod tree_shaker;
 pub mod wraps;
 
 pub use basis::{Basis, Config};
-pub use place::Place;
-pub use shaker::TreeShaker;
-pub use verdict::Verdict;
+pub use shaker::perform::Verdict;
+pub use shaker::place::Place;
+pub use tree_shaker::TreeShaker;

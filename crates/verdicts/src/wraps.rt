@@ -3,8 +3,8 @@ ghost use Rattle.rules.specs.Words.{tree_of, Whole};
 ghost use Rattle.rules.specs.Removal.{only_identifiers, returns_object, wraps_object, call_unwraps};
 ghost use Rattle.records.specs.Reads.{head_of};
 
-use crate::look::{after, below, first_flagged, first_is, first_symbol, is_end};
 use records::{Children, Kind, Record};
+use shaker::look::{after, below, first_flagged, first_is, first_symbol, is_end};
 
 /// Whether the chain that `first` leads to has no record but Identifiers.
 fn only_identifiers(words: &[u32], first: u32) -> bool

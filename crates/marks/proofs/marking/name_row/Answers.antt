@@ -3,7 +3,7 @@ use Rattle.rules.specs.Tables.{names_width, fresh}
 use Rattle.tables.specs.Matching.{name_words, name_of_id}
 use Rattle.tables.proofs.Behind.{placed_zeroed}
 use Rattle.data.specs.Events.{name_placed}
-use Rattle.marks.proofs.Marks.{told_as}
+use Rattle.data.proofs.Tells.{told_as}
 use Rattle.marks.proofs.marking.name_row.Goals as goal
 
 pub returns : goal.returns

@@ -1,7 +1,7 @@
 use Rattle.rules.specs.Tree.{below}
 use Rattle.rules.specs.Words.{tree_of}
 use Rattle.edit.proofs.Moves.{again}
-use Rattle.verdicts.specs.Places.{place_of}
+use Rattle.shaker.specs.Places.{place_of}
 use Rattle.verdicts.specs.Grounds.{config_of, by_words}
 use Rattle.verdicts.proofs.RowsRead.{by_held}
 use Rattle.removal.proofs.Treats.{treats}

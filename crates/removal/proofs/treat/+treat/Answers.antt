@@ -2,9 +2,9 @@ use Rattle.std.proofs.Common.{◌≡◌, arith}
 use Rattle.rules.specs.Tree.{Chain, below}
 use Rattle.rules.specs.Removal.{treat}
 use Rattle.edit.specs.Slots.{Made}
-use Rattle.verdicts.specs.Places.{place_of}
+use Rattle.shaker.specs.Places.{place_of}
 use Rattle.verdicts.specs.Grounds.{by_of}
-use Rattle.removal.specs.Treating.{Nested}
+use Rattle.shaker.specs.Treating.{Nested}
 use Rattle.removal.proofs.Treats.{treats, whole_at, down, half_asked, standing, moved, passed_by, closed}
 use Rattle.removal.proofs.treat.+treat.Goals as goal
 

@@ -2,9 +2,9 @@
 use Rattle.std.proofs.Common.{◌<◌, length}
 use Rattle.rules.specs.Tree.{Chain}
 use Rattle.edit.proofs.Moves.{to_go}
-use Rattle.verdicts.specs.Places.{place_of}
+use Rattle.shaker.specs.Places.{place_of}
 use Rattle.verdicts.specs.Grounds.{by_of}
-use Rattle.removal.specs.Treating.{Nested}
+use Rattle.shaker.specs.Treating.{Nested}
 use Rattle.removal.proofs.Treats.{Ongoing}
 use Rattle.removal.proofs.treat.+treat.Given as goal
 

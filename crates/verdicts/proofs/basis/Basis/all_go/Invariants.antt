@@ -3,7 +3,7 @@ use Rattle.std.proofs.Common.{◌≡◌, Bool}
 use Rattle.rules.specs.Tree.{Chain}
 use Rattle.rules.specs.Words.{tree_of, Whole}
 use Rattle.rules.specs.Removal.{all_go}
-use Rattle.verdicts.specs.Places.{place_of}
+use Rattle.shaker.specs.Places.{place_of}
 use Rattle.verdicts.specs.Grounds.{by_of}
 use Rattle.verdicts.proofs.basis.Basis.all_go.Given as goal
 

@@ -5,19 +5,21 @@ ghost use Rattle.rules.specs.Opening.{depth};
 ghost use Rattle.rules.specs.Removal.{first_acts, keeps_class, class_goes, declarator_goes, assignment_yields, verdict};
 ghost use Rattle.records.specs.Cursor.{Opened};
 ghost use Rattle.records.specs.Reads.{head_of};
-ghost use Rattle.verdicts.specs.Places.{place_of};
+ghost use Rattle.shaker.specs.Places.{place_of};
 ghost use Rattle.verdicts.specs.Grounds.{by_of};
-ghost use Rattle.verdicts.specs.Choices.{verdict_of, choice};
+ghost use Rattle.shaker.specs.Verdicts.{verdict_of};
+ghost use Rattle.shaker.specs.Treating.{choice};
 ghost use Rattle.verdicts.specs.Members.{keeps_by};
 
 use crate::basis::Basis;
 use crate::goes::{id_of, var_emptied};
-use crate::look::{after, below, first_is, first_name};
-use crate::place::{Place, has_list};
-use crate::verdict::Verdict;
+use crate::look::first_name;
 use crate::wraps::call_unwraps;
 use judge::Judge;
 use records::{Children, Kind, Record};
+use shaker::look::{after, below, first_is};
+use shaker::perform::Verdict;
+use shaker::place::{Place, has_list};
 
 /// What a removal goes by: the judge, and the settings, lists and tables.
 #[derive(Drop)]

@@ -4,7 +4,7 @@ use Rattle.rules.specs.Words.{tree_of}
 use Rattle.rules.specs.Removal.{keeps_class}
 use Rattle.records.specs.Cursor.{Along}
 use Rattle.verdicts.specs.Grounds.{by_of}
-use Rattle.verdicts.proofs.shaker.TreeShaker.keeps_class.Given as goal
+use Rattle.verdicts.proofs.tree_shaker.TreeShaker.keeps_class.Given as goal
 
 abbrev pub invariant-loop-n : goal.invariant-loop-n
 invariant-loop-n g l =
