@@ -1,9 +1,10 @@
 -- The record that a link leads to. A link that does not stand is 0 where the chain from it ends; one that stands opens
 -- into its record and the chains of that record's links, which the record read there names.
-use Rattle.std.proofs.Common.{◌≡◌, ℕ, false, List, Some, None, Option, ⊎_elim, arith, MatchOption}
+use Rattle.std.proofs.Common.{◌≡◌, ◌≤◌, ◌/◌, ℕ, zero, suc, length, false, List, Some, None, Option, ⊎_elim, arith, MatchOption}
 use Rattle.std.proofs.lemmas.Bool.{cases_eq, both_ways}
 use Rattle.rules.specs.Tree.Chain.{end}
-use Rattle.rules.specs.Words.{stands, tree_of, Whole}
+use Rattle.rules.specs.Opening.{depth}
+use Rattle.rules.specs.Words.{first_child, next, records, stands, chain_of, tree_of, Whole}
 use Rattle.rules.proofs.Reading.{tree_end, opens}
 use Rattle.rules.proofs.Sizes.{stands_positive}
 use Rattle.records.specs.Reads.{Reads}
@@ -37,7 +38,18 @@ reads_opens words n r whole reads =
       shorter = rw b o.shorter;
     }
 
-pub linked_opens : (words : List ℕ) (n : ℕ) (o : Option Record) → MatchOption o (stands words n ≡ false) (Reads words n) →
+pub at_opens : (words : List ℕ) (n : ℕ) (o : Option Record) → MatchOption o (stands words n ≡ false) (Reads words n) →
     Whole words n → MatchOption o (tree_of words n ≡ end) (Opened words n)
-linked_opens words n None s whole = none_ends words n whole s
-linked_opens words n (Some r) reads whole = reads_opens words n r whole reads
+at_opens words n None s whole = none_ends words n whole s
+at_opens words n (Some r) reads whole = reads_opens words n r whole reads
+
+depth-chain_of : (words : List ℕ) (left n : ℕ) → depth (chain_of words left n) ≤ left
+unfolding chain_of
+depth-chain_of words zero n = omega arith
+depth-chain_of words (suc left) n =
+    Prim.grind (arith, depth-chain_of words left (first_child words n), depth-chain_of words left (next words n))
+
+-- a chain nests no deeper than the words have room for records
+pub depth-tree_of : (words : List ℕ) (n : ℕ) → depth (tree_of words n) ≤ length words / 6
+unfolding tree_of
+depth-tree_of words n = depth-chain_of words (records words) n

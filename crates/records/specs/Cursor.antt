@@ -1,14 +1,12 @@
--- What a walk through a chain by the cursor knows. The contract of the cursor and the invariants of walkers cite it.
+-- How a chain opens at a record that was read. The contract of reading a record cites it.
 --
 --   Opened      the chain at a record, by the record that was read there
---   Along       how far a cursor has come
 use Rattle.std.specs.Prelude.{◌≡◌, ℕ, ◌<◌, ◌≤◌, List}
 use Rattle.rules.specs.Tree.Chain.{link}
 use Rattle.rules.specs.Words.{tree_of, Whole}
 use Rattle.rules.specs.Opening.{depth, siblings}
 use Rattle.records.specs.Reads.{head_of, Reads}
 use Rattle.records.specs.declared.record.Record.{Record}
-use Rattle.records.specs.declared.children.Children.{Children}
 
 -- the link n leads to this record, whose own links lead to chains that end: to its children, nested less, and to what follows
 pub record Opened (words : List ℕ) (n : ℕ) (r : Record) : Type 0 where
@@ -20,8 +18,3 @@ pub record Opened (words : List ℕ) (n : ℕ) (r : Record) : Type 0 where
   pub deeper : depth (tree_of words r.first) < depth (tree_of words n)
   pub level : depth (tree_of words r.next) ≤ depth (tree_of words n)
   pub shorter : siblings (tree_of words r.next) < siblings (tree_of words n)
-
--- the cursor goes through these words, and what it has yet to come to ends and nests no deeper than `left`
-abbrev pub Along : List ℕ → Children → (left : ℕ) → Type 0
-Along words cursor left =
-    (cursor.words.now ≡ words) × Whole words cursor.at × (depth (tree_of words cursor.at) ≤ left)

@@ -1,9 +1,12 @@
 -- The kinds of the code by the book's numbers. The contracts of kinds and records cite it.
 --
 --   kind_word      the first word of a record of a kind
-use Rattle.std.specs.Prelude.{ℕ}
+--   Decodes        what a first word stands for
+use Rattle.std.specs.Prelude.{◌≡◌, ℕ, false, Result, MatchResult}
+use Rattle.rules.specs.Kinds.{known}
 use Rattle.rules.specs.Kinds as book
 use Rattle.records.specs.declared.kind.Kind.{Kind}
+use Rattle.records.specs.declared.kind.UnknownKind.{UnknownKind}
 use Rattle.records.specs.declared.kind.Kind.TheVariants.{Module, Script, Import, Specifier, ExportDeclaration, ExportList, ExportName, ExportDefault, Empty, Block, ExpressionStatement, PlainStatement, Try, FnDeclaration, ClassDeclaration, VarDeclaration, For, With, Catch, Declarator, Function, Class, Method, Property, StaticBlock, Constructor, Identifier, Literal, FunctionExpression, ClassExpression, Arrow, PlainExpression, Object, Call, Delete, Assignment, NamePattern, CompoundPattern, DefaultPattern, PropertyName, ExpressionPattern}
 
 -- the first word of a record of this kind
@@ -49,3 +52,7 @@ kind_word CompoundPattern = book.compound_pattern
 kind_word DefaultPattern = book.default_pattern
 kind_word PropertyName = book.property_name
 kind_word ExpressionPattern = book.expression_pattern
+
+-- the kind whose first word it is; a word that is no kind's is handed back
+abbrev pub Decodes : ℕ → Result Kind UnknownKind → Type 0
+Decodes w result = MatchResult result (λ k. kind_word k ≡ w) (λ e. (known w ≡ false) × (e.0 ≡ w))

@@ -1,9 +1,12 @@
-ghost use Rattle.std.specs.Prelude.{◌≡◌, false, MatchOption, ◌==◌};
-ghost use Rattle.rules.specs.Kinds.{known, within, expression, statement, pattern, item, declaration, class_member, definition_expression};
-ghost use Rattle.records.specs.KindWords.{kind_word};
+ghost use Rattle.std.specs.Prelude.{◌≡◌};
+ghost use Rattle.rules.specs.Kinds.{within, expression, statement, pattern, item, declaration, class_member, definition_expression};
+ghost use Rattle.records.specs.KindWords.{kind_word, Decodes};
+
+use std::error::Error;
+use std::fmt;
 
 /// What a record is. The number of a kind is the first word of its records.
-#[derive(Clone, Copy)]
+#[derive(Clone, Copy, PartialEq, Eq, Debug)]
 pub enum Kind {
     Module = 1,
     Script = 2,
@@ -48,67 +51,77 @@ pub enum Kind {
     ExpressionPattern = 41,
 }
 
-impl Kind {
+/// A word that is no kind's.
+#[derive(Clone, Copy, PartialEq, Eq, Debug)]
+pub struct UnknownKind(pub u32);
+
+impl TryFrom<u32> for Kind {
+    type Error = UnknownKind;
+
+    ghost try_from_gives = { Decodes };
+
     /// The kind that a record's first word names.
-    pub fn of(word: u32) -> Option<Kind>
-        ensures { MatchOption result (known word ≡ false) (λ k. kind_word k ≡ word) }
-    {
+    fn try_from(word: u32) -> Result<Kind, UnknownKind> {
         match word {
-            1 => Some(Kind::Module),
-            2 => Some(Kind::Script),
-            3 => Some(Kind::Import),
-            4 => Some(Kind::Specifier),
-            5 => Some(Kind::ExportDeclaration),
-            6 => Some(Kind::ExportList),
-            7 => Some(Kind::ExportName),
-            8 => Some(Kind::ExportDefault),
-            9 => Some(Kind::Empty),
-            10 => Some(Kind::Block),
-            11 => Some(Kind::ExpressionStatement),
-            12 => Some(Kind::PlainStatement),
-            13 => Some(Kind::Try),
-            14 => Some(Kind::FnDeclaration),
-            15 => Some(Kind::ClassDeclaration),
-            16 => Some(Kind::VarDeclaration),
-            17 => Some(Kind::For),
-            18 => Some(Kind::With),
-            19 => Some(Kind::Catch),
-            20 => Some(Kind::Declarator),
-            21 => Some(Kind::Function),
-            22 => Some(Kind::Class),
-            23 => Some(Kind::Method),
-            24 => Some(Kind::Property),
-            25 => Some(Kind::StaticBlock),
-            26 => Some(Kind::Constructor),
-            27 => Some(Kind::Identifier),
-            28 => Some(Kind::Literal),
-            29 => Some(Kind::FunctionExpression),
-            30 => Some(Kind::ClassExpression),
-            31 => Some(Kind::Arrow),
-            32 => Some(Kind::PlainExpression),
-            33 => Some(Kind::Object),
-            34 => Some(Kind::Call),
-            35 => Some(Kind::Delete),
-            36 => Some(Kind::Assignment),
-            37 => Some(Kind::NamePattern),
-            38 => Some(Kind::CompoundPattern),
-            39 => Some(Kind::DefaultPattern),
-            40 => Some(Kind::PropertyName),
-            41 => Some(Kind::ExpressionPattern),
-            _ => None,
+            1 => Ok(Kind::Module),
+            2 => Ok(Kind::Script),
+            3 => Ok(Kind::Import),
+            4 => Ok(Kind::Specifier),
+            5 => Ok(Kind::ExportDeclaration),
+            6 => Ok(Kind::ExportList),
+            7 => Ok(Kind::ExportName),
+            8 => Ok(Kind::ExportDefault),
+            9 => Ok(Kind::Empty),
+            10 => Ok(Kind::Block),
+            11 => Ok(Kind::ExpressionStatement),
+            12 => Ok(Kind::PlainStatement),
+            13 => Ok(Kind::Try),
+            14 => Ok(Kind::FnDeclaration),
+            15 => Ok(Kind::ClassDeclaration),
+            16 => Ok(Kind::VarDeclaration),
+            17 => Ok(Kind::For),
+            18 => Ok(Kind::With),
+            19 => Ok(Kind::Catch),
+            20 => Ok(Kind::Declarator),
+            21 => Ok(Kind::Function),
+            22 => Ok(Kind::Class),
+            23 => Ok(Kind::Method),
+            24 => Ok(Kind::Property),
+            25 => Ok(Kind::StaticBlock),
+            26 => Ok(Kind::Constructor),
+            27 => Ok(Kind::Identifier),
+            28 => Ok(Kind::Literal),
+            29 => Ok(Kind::FunctionExpression),
+            30 => Ok(Kind::ClassExpression),
+            31 => Ok(Kind::Arrow),
+            32 => Ok(Kind::PlainExpression),
+            33 => Ok(Kind::Object),
+            34 => Ok(Kind::Call),
+            35 => Ok(Kind::Delete),
+            36 => Ok(Kind::Assignment),
+            37 => Ok(Kind::NamePattern),
+            38 => Ok(Kind::CompoundPattern),
+            39 => Ok(Kind::DefaultPattern),
+            40 => Ok(Kind::PropertyName),
+            41 => Ok(Kind::ExpressionPattern),
+            _ => Err(UnknownKind(word)),
         }
     }
+}
 
-    /// The first word of a record of this kind.
-    pub fn word(self) -> u32
-        ensures { result ≡ kind_word self }
-    {
-        self as u32
+impl From<Kind> for u32 {
+    ghost from_gives = { λ k w. w ≡ kind_word k };
+
+    /// The first word of a record of the kind.
+    fn from(kind: Kind) -> u32 {
+        kind as u32
     }
+}
 
-    /// The kind in words, for a reader.
-    pub fn name(self) -> &'static str {
-        match self {
+impl fmt::Display for Kind {
+    /// Writes the kind in words, for a reader.
+    fn fmt<W: fmt::Write>(&self, f: &mut fmt::Formatter<W>) -> fmt::Result {
+        f.write_str(match self {
             Kind::Module => "Module",
             Kind::Script => "Script",
             Kind::Import => "Import",
@@ -150,16 +163,19 @@ impl Kind {
             Kind::DefaultPattern => "Default pattern",
             Kind::PropertyName => "Property name",
             Kind::ExpressionPattern => "Expression pattern",
-        }
+        })
     }
+}
 
-    /// Whether the two kinds are one.
-    pub fn is(self, other: Kind) -> bool
-        ensures { result ≡ (kind_word self == kind_word other) }
-    {
-        self.word() == other.word()
+impl fmt::Display for UnknownKind {
+    fn fmt<W: fmt::Write>(&self, f: &mut fmt::Formatter<W>) -> fmt::Result {
+        write!(f, "no kind has the word {}", self.0)
     }
+}
 
+impl Error for UnknownKind {}
+
+impl Kind {
     /// Whether such a record is an expression.
     pub fn is_expression(self) -> bool
         ensures { result ≡ expression (kind_word self) }
@@ -178,7 +194,7 @@ impl Kind {
     pub fn is_pattern(self) -> bool
         ensures { result ≡ pattern (kind_word self) }
     {
-        self.is_between(Kind::NamePattern, Kind::DefaultPattern) || self.is(Kind::ExpressionPattern)
+        self.is_between(Kind::NamePattern, Kind::DefaultPattern) || self == Kind::ExpressionPattern
     }
 
     /// Whether such a record may stand in a Module.
@@ -186,10 +202,10 @@ impl Kind {
         ensures { result ≡ item (kind_word self) }
     {
         self.is_statement()
-            || self.is(Kind::Import)
-            || self.is(Kind::ExportDeclaration)
-            || self.is(Kind::ExportList)
-            || self.is(Kind::ExportDefault)
+            || matches!(
+                self,
+                Kind::Import | Kind::ExportDeclaration | Kind::ExportList | Kind::ExportDefault
+            )
     }
 
     /// Whether such a record may stand in an Export declaration.
@@ -210,13 +226,14 @@ impl Kind {
     pub fn is_definition_expression(self) -> bool
         ensures { result ≡ definition_expression (kind_word self) }
     {
-        self.is(Kind::FunctionExpression) || self.is(Kind::ClassExpression)
+        self == Kind::FunctionExpression || self == Kind::ClassExpression
     }
 
     /// Whether the kind stands between two others, or is one of them.
     fn is_between(self, low: Kind, high: Kind) -> bool
         ensures { result ≡ within (kind_word low) (kind_word high) (kind_word self) }
     {
-        low.word() <= self.word() && self.word() <= high.word()
+        let word = u32::from(self);
+        u32::from(low) <= word && word <= u32::from(high)
     }
 }

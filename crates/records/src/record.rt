@@ -5,6 +5,7 @@ ghost use Rattle.rules.specs.Tree.Chain.{end};
 ghost use Rattle.records.specs.Cursor.{Opened};
 ghost use Rattle.records.specs.Reads.{Part, Reads, Starts};
 
+use crate::id::Id;
 use crate::kind::Kind;
 
 /// The six words of a record: what it is, its name, and the links to its first child and to the next of its chain.
@@ -19,15 +20,23 @@ pub struct Record {
 }
 
 impl Record {
-    /// Record `n` of the words, counted from 1, if it is there and of some kind.
+    /// Record `n` of the words, counted from 1, if it is there and of some kind. Where the chain from the link `n` on ends, it opens into the record and the chains of its own links.
     pub fn at(words: &[u32], n: u32) -> Option<Record>
+        ensures reads { MatchOption result (stands words.now n ≡ false) (Reads words.now n) }
+        ensures opened { Whole words.now n → MatchOption result (tree_of words.now n ≡ end) (Opened words.now n) }
+    {
+        Record::read(words, n)
+    }
+
+    /// Record `n` of the words, out of its six words.
+    fn read(words: &[u32], n: u32) -> Option<Record>
         ensures { MatchOption result (stands words.now n ≡ false) (Reads words.now n) }
     {
         let part = part_of(words, n)?;
         let [kind, flags, symbol, mark, first, next] = part else {
             return None;
         };
-        let kind = Kind::of(*kind)?;
+        let kind = Kind::try_from(*kind).ok()?;
         Some(Record {
             kind,
             flags: *flags,
@@ -38,12 +47,14 @@ impl Record {
         })
     }
 
-    /// The record that a link leads to, if there is one. Where the chain from the link on ends, it opens into the record and the chains of its own links.
-    pub fn linked(words: &[u32], link: u32) -> Option<Record>
-        ensures reads { MatchOption result (stands words.now link ≡ false) (Reads words.now link) }
-        ensures opened { Whole words.now link → MatchOption result (tree_of words.now link ≡ end) (Opened words.now link) }
+    /// The name that the record bears.
+    pub fn id(self) -> Id
+        ensures { result ≡ record { symbol = self.symbol; mark = self.mark } }
     {
-        Record::at(words, link)
+        Id {
+            symbol: self.symbol,
+            mark: self.mark,
+        }
     }
 }
 

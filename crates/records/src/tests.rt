@@ -22,13 +22,13 @@ fn module() -> [u32; 36]
 
 #[test]
 fn kinds_have_words(rt: HostRuntime) -> Result<(), Fail> {
-    let kind = Kind::of(14).ok_or("14 is a kind")?;
-    assert!(rt; kind.is(Kind::FnDeclaration));
-    assert_eq!(rt; kind.name(), "Fn declaration");
+    let kind = Kind::try_from(14).map_err(|_| "14 is a kind")?;
+    assert!(rt; kind == Kind::FnDeclaration);
+    assert_eq!(rt; kind.to_string(rt.alloc())?.as_str(), "Fn declaration");
     assert!(rt; kind.is_declaration());
     assert!(rt; !kind.is_expression());
-    assert!(rt; Kind::of(0).is_none());
-    assert!(rt; Kind::of(42).is_none());
+    assert!(rt; Kind::try_from(0).is_err());
+    assert!(rt; Kind::try_from(42).is_err());
     Ok(())
 }
 
@@ -36,7 +36,7 @@ fn kinds_have_words(rt: HostRuntime) -> Result<(), Fail> {
 fn a_record_is_read(rt: HostRuntime) -> Result<(), Fail> {
     let words = module();
     let record = Record::at(&words, 3).ok_or("record 3 is there")?;
-    assert!(rt; record.kind.is(Kind::FnDeclaration));
+    assert!(rt; record.kind == Kind::FnDeclaration);
     assert_eq!(rt; (record.flags, record.symbol, record.mark), (0, 7, 2));
     assert_eq!(rt; (record.first, record.next), (5, 4));
     assert!(rt; Record::at(&words, 0).is_none());
@@ -48,12 +48,11 @@ fn a_record_is_read(rt: HostRuntime) -> Result<(), Fail> {
 fn children_come_in_order(rt: HostRuntime) {
     let words = module();
     let mut order = 0u32;
-    for (n, child) in Children::of(&words, 2) {
-        let next = child.next;
+    for node in Children::of(&words, 2) {
         order = order
             .wrapping_mul(100)
-            .wrapping_add(n.wrapping_mul(10))
-            .wrapping_add(next);
+            .wrapping_add(node.number.wrapping_mul(10))
+            .wrapping_add(node.record.next);
     }
     assert_eq!(rt; order, 233440);
 }

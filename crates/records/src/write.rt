@@ -4,6 +4,7 @@ ghost use Rattle.records.specs.Writes.{with_word, turned};
 
 use crate::kind::Kind;
 use crate::record::start_of;
+use crate::{FIRST, NEXT};
 
 const KIND: usize = 0;
 
@@ -12,10 +13,6 @@ const FLAGS: usize = 1;
 const SYMBOL: usize = 2;
 
 const MARK: usize = 3;
-
-const FIRST: usize = 4;
-
-const NEXT: usize = 5;
 
 /// Writes the link of record `n` to its first child; where there is no such record, nothing.
 pub fn set_first(words: &mut [u32], n: u32, link: u32)
@@ -35,7 +32,7 @@ pub fn set_next(words: &mut [u32], n: u32, link: u32)
 pub fn turn_into(words: &mut [u32], n: u32, kind: Kind)
     ensures { words.new ≡ turned words.old n (kind_word kind) }
 {
-    set_word(words, n, KIND, kind.word());
+    set_word(words, n, KIND, u32::from(kind));
     set_word(words, n, FLAGS, 0);
     set_word(words, n, SYMBOL, 0);
     set_word(words, n, MARK, 0);

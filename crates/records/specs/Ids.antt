@@ -1,0 +1,9 @@
+-- Names of the code as the book has them.
+--
+--   name_of_id      the name that a symbol and a mark are
+use Rattle.rules.specs.Tree.{Name}
+use Rattle.records.specs.declared.id.Id.{Id}
+
+-- the name
+abbrev pub name_of_id : Id → Name
+name_of_id id = record { symbol = id.symbol; mark = id.mark }
