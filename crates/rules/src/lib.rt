@@ -5,28 +5,22 @@ ghost use Rattle.rules.specs.Facts.{CheckSound, CheckComplete, CheckMost, ReadBa
 ghost use Rattle.rules.specs.Reaching.{LeadsTold, ComponentTold};
 ghost use Rattle.rules.specs.Scripts.{Shown};
 
-// The worked scripts come out of the definitions as they should: passes, trees left and counts, by computation.
-pub fn worked_scripts() -> u8
+/// The worked scripts come out of the definitions as they should: passes, trees left and counts, by computation.
+pub fn worked_scripts()
     ensures { Shown }
-{
-    0
-}
+{}
 
-// The check takes exactly the trees that the words hold, and reading from the root gives what it took.
-pub fn check_takes_what_words_hold() -> u8
+/// The check takes exactly the trees that the words hold, and reading from the root gives what it took.
+pub fn check_takes_what_words_hold()
     ensures sound { CheckSound }
     ensures complete { CheckComplete }
     ensures most { CheckMost }
     ensures back { ReadBack }
     ensures read { TreeIsRead }
-{
-    0
-}
+{}
 
-// The computed tests of the rings say what they should: edges lead from one name to another, and two names share a component.
-pub fn components_are_mutual_reach() -> u8
+/// The computed tests of the rings say what they should: edges lead from one name to another, and two names share a component.
+pub fn components_are_mutual_reach()
     ensures leads { LeadsTold }
     ensures component { ComponentTold }
-{
-    0
-}
+{}
