@@ -21,7 +21,7 @@ use Rattle.rules.proofs.Sizes.{free, free_most, free_mono, free_cons, visited, v
 
 pub then_fine : {A B : Type 0} (o : Outcome A) (f : A → Outcome B) (b : B) → and_then o f ≡ fine b → (a : A) × (o ≡ fine a) × (f a ≡ fine b)
 then_fine (fine a) f b e = (a, refl, e)
-then_fine (refused number at) f b e = let z : ◌≡◌ {A = ℕ} 0 1 = cc in absurd (omega arith)
+then_fine (refused number at) f b e = cc
 
 then_same : {A B : Type 0} (o p : Outcome A) (f g : A → Outcome B) → o ≡ p → ((a : A) → o ≡ fine a → f a ≡ g a) → and_then o f ≡ and_then p g
 then_same (fine a) p f g e h = h a refl ∙ ap (λ (x : Outcome _). and_then x g) e
@@ -38,9 +38,9 @@ pub record Placed (words : List ℕ) (n nesting : ℕ) (ways : List Way) (before
 took : {A : Type 0} (b c d : Bool) (n : ℕ) (o p : A) →
     (if b then refused bad_link n else if c then refused too_deep n else if d then refused bad_record n else fine o) ≡ fine p →
     (b ≡ false) × (c ≡ false) × (d ≡ false) × (o ≡ p)
-took true c d n o p e = let z : ◌≡◌ {A = ℕ} 0 1 = cc in absurd (omega arith)
-took false true d n o p e = let z : ◌≡◌ {A = ℕ} 0 1 = cc in absurd (omega arith)
-took false false true n o p e = let z : ◌≡◌ {A = ℕ} 0 1 = cc in absurd (omega arith)
+took true c d n o p e = cc
+took false true d n o p e = cc
+took false false true n o p e = cc
 took false false false n o p e = (refl, refl, refl, cc)
 
 pub take_fine : (words : List ℕ) (n nesting : ℕ) (ways : List Way) (before : List ℕ) (onward : List Way) →
@@ -104,18 +104,18 @@ Walks words P left = (n nesting : ℕ) (ways : List Way) (parent : ℕ) (before 
 stopped : (b : Bool) (before : List ℕ) (x y : ℕ) (r : Read) → (if b then fine (record { chain = end; reached = before }) else refused x y) ≡ fine r →
     (b ≡ true) × (◌≡◌ {A = Read} (record { chain = end; reached = before }) r)
 stopped true before x y r e = (refl, cc)
-stopped false before x y r e = let z : ◌≡◌ {A = ℕ} 0 1 = cc in absurd (omega arith)
+stopped false before x y r e = cc
 
 stop_has : (P : Said) → AtEnd P → (n nesting : ℕ) (ways : List Way) (parent : ℕ) (before : List ℕ) (r : Read) → n ≡ 0 →
     stop ways parent before ≡ fine r → P n nesting ways before r
 stop_has P ends n nesting ways parent before r z e =
     let s = stopped (may_end ways) before bad_record parent r e in
-    subst (λ (q : Read). P n nesting ways before q) s.1 (ends n nesting ways before z s.0)
+    rw s.1 at (ends n nesting ways before z s.0)
 
 none_has : (P : Said) → AtEnd P → (b : Bool) (n nesting : ℕ) (ways : List Way) (parent : ℕ) (before : List ℕ) (r : Read) → eqb n 0 ≡ b →
     (if b then stop ways parent before else refused bad_link n) ≡ fine r → P n nesting ways before r
 none_has P ends true n nesting ways parent before r z e = stop_has P ends n nesting ways parent before r (eqb-true n 0 z) e
-none_has P ends false n nesting ways parent before r z e = let y : ◌≡◌ {A = ℕ} 0 1 = cc in absurd (omega arith)
+none_has P ends false n nesting ways parent before r z e = cc
 
 turn_has : (words : List ℕ) (P : Said) → AtEnd P → AtRecord words P → (b : Bool) (left n nesting : ℕ) (ways : List Way) (parent : ℕ) (before : List ℕ) (r : Read) →
     eqb n 0 ≡ b → Walks words P left → turn b words left n nesting ways parent before ≡ fine r → P n nesting ways before r
@@ -126,7 +126,7 @@ turn_has words P ends goes false left n nesting ways parent before r z ih e =
     let s = then_fine (walk words left (next words n) nesting p.0 parent q.0.reached) _ r q.2 in
     let t = take_fine words n nesting ways before p.0 p.1 in
     let is : ◌≡◌ {A = Read} (record { chain = link (head_at words n) q.0.chain s.0.chain; reached = s.0.reached }) r = cc s.2 in
-    subst (λ (x : Read). P n nesting ways before x) is
+    rw is at
     (goes n nesting ways before q.0 s.0 (omega (arith, eqb-false n 0 z)) t.0
     (ih (first_child words n) (suc nesting) (children_of (head_at words n)) n (n ∷ before) q.0 q.1)
     (subst (λ (w : List Way). P (next words n) nesting w q.0.reached s.0) (sym t.1)
@@ -150,8 +150,8 @@ walk_visits words left = walk_induction words Visits
 walk_frees : (words : List ℕ) (left n nesting : ℕ) (ways : List Way) (parent : ℕ) (before : List ℕ) (r : Read) →
     walk words left n nesting ways parent before ≡ fine r → free (records words) r.reached ≤ free (records words) before
 walk_frees words left n nesting ways parent before r e =
-    free_mono (records words) before r.reached (λ j m.
-    subst (λ (l : List ℕ). member j l ≡ true) (sym (walk_visits words left n nesting ways parent before r e)) (visited_keeps r.chain before j m))
+    free_mono (records words) before r.reached
+    (λ j m. rw (walk_visits words left n nesting ways parent before r e) (visited_keeps r.chain before j m))
 
 -- where no record is free, none is taken
 take_none : (words : List ℕ) (n nesting : ℕ) (ways : List Way) (before : List ℕ) → 1 ≤ n → free (records words) before ≤ 0 →

@@ -1,13 +1,14 @@
 -- How many records are left to reach. A chain with each record once adds each of its records to those reached,
 -- and every record added leaves one fewer free: so a chain that the words hold has no more records than they have room for.
 --
+--   unless, unless_most, unless_mono               1 where a test fails
 --   free, free_most, free_mono, free_cons          how many of the first records are not in a list
---   visited, visited_keeps, visited_has, visited_from      the records reached after a chain
+--   visited, visited_keeps, first_reached, visited_has, visited_from      the records reached after a chain
 --   Fresh, fresh_children, fresh_rest              no record of the chain was reached before
 --   stands_within, stands_positive                 a record that stands has a number in range
 --   size_most                                      the bound
 use Rattle.std.proofs.Common.{◌≡◌, ℕ, zero, suc, ◌+◌, ◌≤◌, Bool, true, false, ◌||◌, eqb, leb, ◌⊎◌, List, [], ◌∷◌, sym, refl, ap, subst, inl, inr, ⊎_elim, arith}
-use Rattle.std.proofs.lemmas.Bool.{cases_eq, cases_Bool, both_ways, eq-eqb, ne_eqb, eqb-true, leb-true, or_right, or_left, or_from, or_cases, and_parts}
+use Rattle.std.proofs.lemmas.Bool.{cases_eq, false_from_ne_true, both_ways, eq-eqb, ne_eqb, eqb-true, leb-true, or_right, or_left, or_from, or_cases, and_parts}
 use Rattle.rules.specs.Tree.{Head, Chain, reached}
 use Rattle.rules.specs.Tree.Chain.{end, link}
 use Rattle.rules.specs.Kinds.{member, within, known}
@@ -24,13 +25,13 @@ abbrev pub free : ℕ → List ℕ → ℕ
 free zero r = 0
 free (suc k) r = unless (member (suc k) r) + free k r
 
-unless_most : (b : Bool) → unless b ≤ 1
+pub unless_most : (b : Bool) → unless b ≤ 1
 unless_most true = omega arith
 unless_most false = omega arith
 
-unless_mono : (a b : Bool) → (a ≡ true → b ≡ true) → unless b ≤ unless a
+pub unless_mono : (a b : Bool) → (a ≡ true → b ≡ true) → unless b ≤ unless a
 unless_mono true true h = omega arith
-unless_mono true false h = let z : ◌≡◌ {A = ℕ} 0 1 = ap unless (sym (h refl)) in omega arith
+unless_mono true false h = absurd (both_ways false refl (h refl))
 unless_mono false b h = unless_most b
 
 pub free_most : (k : ℕ) (r : List ℕ) → free k r ≤ k
@@ -66,7 +67,7 @@ visited_keeps (link h children rest) before x m =
     (visited_keeps children (h.number ∷ before) x (or_right (eqb x h.number) (member x before) m))
 
 -- the record that a chain begins with is reached
-first_reached : (n x : ℕ) (before : List ℕ) → x ≡ n → member x (n ∷ before) ≡ true
+pub first_reached : (n x : ℕ) (before : List ℕ) → x ≡ n → member x (n ∷ before) ≡ true
 first_reached n x before e = or_left (eqb x n) (member x before) (eq-eqb x n e)
 
 pub visited_has : (c : Chain) (before : List ℕ) (x : ℕ) → Numbers x c → member x (visited c before) ≡ true
@@ -103,22 +104,19 @@ pub fresh_children : (h : Head) (children rest : Chain) (before : List ℕ) → 
     Fresh children (h.number ∷ before)
 fresh_children h children rest before apart fresh x i =
     or_from (eqb x h.number) (member x before)
-    (ne_eqb x h.number (λ e. apart.0 (subst (λ (y : ℕ). Numbers y children) e i)))
+    (ne_eqb x h.number (λ e. apart.0 (rw e at i)))
     (fresh x (inr (inl i)))
 
 pub fresh_rest : (h : Head) (children rest : Chain) (before : List ℕ) → Apart (link h children rest) → Fresh (link h children rest) before →
     Fresh rest (visited children (h.number ∷ before))
 fresh_rest h children rest before apart fresh x j =
-    elim (cases_Bool (member x (visited children (h.number ∷ before)))) [
-      | inr e ↦ e
-      | inl e ↦ elim (visited_from children (h.number ∷ before) x e) [
-        | inl i ↦ absurd (apart.2 x i j)
-        | inr m ↦ elim (or_cases (eqb x h.number) (member x before) m) [
-          | inl q ↦ absurd (apart.1 (subst (λ (y : ℕ). Numbers y rest) (eqb-true x h.number q) j))
-          | inr q ↦ absurd (both_ways (member x before) (fresh x (inr (inr j))) q)
-        ]
+    false_from_ne_true (member x (visited children (h.number ∷ before))) (λ e. elim (visited_from children (h.number ∷ before) x e) [
+      | inl i ↦ apart.2 x i j
+      | inr m ↦ elim (or_cases (eqb x h.number) (member x before) m) [
+        | inl q ↦ apart.1 (rw (eqb-true x h.number q) at j)
+        | inr q ↦ both_ways (member x before) (fresh x (inr (inr j))) q
       ]
-    ]
+    ])
 
 pub stands_positive : (words : List ℕ) (n : ℕ) → stands words n ≡ true → 1 ≤ n
 stands_positive words n s =
