@@ -1,61 +1,33 @@
--- Tests, choices, lists, folds and outcomes as several pages need them, and a case split on whether two names are one.
+-- Tests, choices, lists and folds as several pages need them, and a case split on whether two names are one.
 --
---   bool_eq, or_swap, or_turn                       tests
---   cond_ap, if_both, cond_nest, cond_commutes, elim_both      choices
+--   or_swap, cond_ap, if_both, elim_both            tests and choices
 --   by_equal, by_same                               at one key or name, or at two that differ
 --   in_append, in_left, in_right, in_if, if_in      members of one list after another, and of a list under a test
---   Each, each_member                               a fact on each kind of a list
---   fold, Commutes, fold-++, fold_swap              folds; with steps that commute, whichever of two parts comes first
---   refused_fine                                    a refusal is no result
+--   each_member                                     a fact on each kind of a list
+--   Commutes, fold_swap                             folds with steps that commute, whichever of two parts comes first
 use Rattle.std.specs.Prelude.{if◌then◌else◌}
-use Rattle.std.proofs.Common.{◌≡◌, ℕ, Bool, true, false, cond, ◌||◌, eqb, ◌⊎◌, List, [], ◌∷◌, ◌++◌, sym, refl, ap, ◌∙◌, subst, ap₂, inl, inr, ⊎_elim, arith}
-use Rattle.std.proofs.lemmas.Bool.{cases_Bool, both_ways, or_cases, eqb-true}
+use Rattle.std.specs.List.{AllByRecursion, fold}
+use Rattle.std.proofs.Common.{◌≡◌, ℕ, Bool, true, false, cond, ◌||◌, ◌⊎◌, List, [], ◌∷◌, ◌++◌, sym, refl, ap, ◌∙◌, subst, ap₂, inl, inr, ⊎_elim, arith}
+use Rattle.std.proofs.lemmas.Bool.{cases_Bool, both_ways}
+use Rattle.std.proofs.lemmas.List.Elements.{All-from_recursion, All-contains}
+use Rattle.std.proofs.lemmas.List.Folds.{fold_along}
+use Rattle.std.proofs.lemmas.Map.Views.{Contains-from_any, exact_unsigned_eq}
 use Rattle.rules.specs.Tree.{Name}
 use Rattle.rules.specs.Kinds.{member}
-use Rattle.rules.specs.Refusals.{Outcome}
-use Rattle.rules.specs.Refusals.Outcome.{fine, refused}
 use Rattle.rules.specs.Names.{same}
 use Rattle.rules.specs.Law.{In}
 use Rattle.rules.proofs.SameNames.{same_eq, same_refl}
 
 -- TESTS AND CHOICES
 
--- two tests that follow from one another
-pub bool_eq : (x y : Bool) → (x ≡ true → y ≡ true) → (y ≡ true → x ≡ true) → x ≡ y
-bool_eq true y f g = sym (f refl)
-bool_eq false true f g = g refl
-bool_eq false false f g = refl
-
 pub or_swap : (a b c : Bool) → (a || (b || c)) ≡ (b || (a || c))
-or_swap true true c = refl
-or_swap true false c = refl
-or_swap false true c = refl
-or_swap false false c = refl
-
-pub or_turn : (a b c d : Bool) → (a || (b || (c || d))) ≡ (((b || c) || a) || d)
-or_turn true true c d = refl
-or_turn true false true d = refl
-or_turn true false false d = refl
-or_turn false true c d = refl
-or_turn false false true d = refl
-or_turn false false false d = refl
+or_swap a b c = grind arith
 
 pub cond_ap : {A B : Type 0} (f : A → B) (b : Bool) (x y : A) → f (cond b x y) ≡ cond b (f x) (f y)
-cond_ap f true x y = refl
-cond_ap f false x y = refl
+cond_ap f b x y = grind arith
 
 pub if_both : {A : Type 0} (b : Bool) {b' : Bool} {x x' y y' : A} → b' ≡ b → x' ≡ x → y' ≡ y → cond b' x' y' ≡ cond b x y
 if_both b {x' = x'} {y' = y'} p q r = ap (λ (z : Bool). cond z x' y') p ∙ ap₂ (cond b) q r
-
-pub cond_nest : {A : Type 0} (b : Bool) (f : A → A) (x y : A) → cond b (f x) y ≡ cond b (f (cond b x y)) (cond b x y)
-cond_nest true f x y = refl
-cond_nest false f x y = refl
-
-pub cond_commutes : {R : Type 0} (a b : Bool) (f g : R → R) (r : R) → f (g r) ≡ g (f r) → cond a (f (cond b (g r) r)) (cond b (g r) r) ≡ cond b (g (cond a (f r) r)) (cond a (f r) r)
-cond_commutes true true f g r e = e
-cond_commutes true false f g r e = refl
-cond_commutes false true f g r e = refl
-cond_commutes false false f g r e = refl
 
 -- a fact on one of two, by a test that is taken apart
 pub elim_both : {A : Type 0} (P : A → Type 0) (b : Bool) (x y : A) → (b ≡ true → P x) → (b ≡ false → P y) → P (elim b [ true ↦ x | false ↦ y ])
@@ -96,38 +68,18 @@ if_in x true xs e h = h
 if_in x false xs e h = absurd (both_ways false refl e)
 
 -- a fact on each number of a list
-abbrev pub Each : (ℕ → Type 0) → List ℕ → Type 0
-Each P [] = Unit {0}
-Each P (k ∷ ks) = P k × Each P ks
-
-pub each_member : (P : ℕ → Type 0) (k : ℕ) (ks : List ℕ) → Each P ks → member k ks ≡ true → P k
-each_member P k [] all g = absurd (both_ways false refl g)
-each_member P k (m ∷ ks) all g = ⊎_elim (λ e. subst P (sym (eqb-true k m e)) all.0) (λ y. each_member P k ks all.1 y) (or_cases (eqb k m) (member k ks) g)
+pub each_member : (P : ℕ → Type 0) (k : ℕ) (ks : List ℕ) → AllByRecursion P ks → member k ks ≡ true → P k
+each_member P k ks all g = All-contains P ks k (All-from_recursion P ks all) (Contains-from_any exact_unsigned_eq k ks g)
 
 -- FOLDS
 
--- each element of a list in turn
-abbrev pub fold : {E R : Type 0} → (E → R → R) → List E → R → R
-fold f [] r = r
-fold f (x ∷ xs) r = fold f xs (f x r)
-
 -- two steps may be exchanged
-abbrev pub Commutes : {E R : Type 0} → (E → R → R) → Type 0
-Commutes {E} {R} f = (x y : E) (r : R) → f x (f y r) ≡ f y (f x r)
+abbrev pub Commutes : {E R : Type 0} → (R → E → R) → Type 0
+Commutes {E} {R} f = (x y : E) (r : R) → f (f r y) x ≡ f (f r x) y
 
-pub fold-++ : {E R : Type 0} (f : E → R → R) (xs ys : List E) (r : R) → fold f (xs ++ ys) r ≡ fold f ys (fold f xs r)
-fold-++ f [] ys r = refl
-fold-++ f (x ∷ xs) ys r = fold-++ f xs ys (f x r)
+fold_past : {E R : Type 0} (f : R → E → R) → Commutes f → (x : E) (ys : List E) (r : R) → fold f (f r x) ys ≡ f (fold f r ys) x
+fold_past {E} {R} f c x ys r = fold_along f f (λ (a b : R). a ≡ f b x) (λ a b y e. ap (λ (z : R). f z y) e ∙ c y x b) (f r x) r ys refl
 
-fold_past : {E R : Type 0} (f : E → R → R) → Commutes f → (x : E) (ys : List E) (r : R) → fold f ys (f x r) ≡ f x (fold f ys r)
-fold_past f c x [] r = refl
-fold_past f c x (y ∷ ys) r = ap (fold f ys) (c y x r) ∙ fold_past f c x ys (f y r)
-
-pub fold_swap : {E R : Type 0} (f : E → R → R) → Commutes f → (xs ys : List E) (r : R) → fold f xs (fold f ys r) ≡ fold f ys (fold f xs r)
-fold_swap f c [] ys r = refl
-fold_swap f c (x ∷ xs) ys r = ap (fold f xs) (sym (fold_past f c x ys r)) ∙ fold_swap f c xs ys (f x r)
-
--- OUTCOMES
-
-pub refused_fine : {A : Type 0} (number at : ℕ) (a : A) → ◌≡◌ {A = Outcome A} (refused number at) (fine a) → ⊥
-refused_fine number at a e = let z : ◌≡◌ {A = ℕ} 0 1 = cc in omega arith
+pub fold_swap : {E R : Type 0} (f : R → E → R) → Commutes f → (xs ys : List E) (r : R) → fold f (fold f r ys) xs ≡ fold f (fold f r xs) ys
+fold_swap {E} {R} f c xs ys r =
+    fold_along f f (λ (a b : R). a ≡ fold f b ys) (λ a b x e. ap (λ (z : R). f z x) e ∙ sym (fold_past f c x ys b)) (fold f r ys) r xs refl

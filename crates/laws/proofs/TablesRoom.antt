@@ -7,8 +7,9 @@
 --   fill_bounded                   names and edges
 use Rattle.std.specs.Prelude.{if◌then◌else◌}
 use Rattle.std.proofs.Common.{◌≡◌, ℕ, suc, ◌+◌, ◌≤◌, Bool, true, false, ◌&&◌, ltb, leb, List, [], ◌∷◌, length, sym, refl, ap, ◌∙◌, subst, inl, inr, arith}
-use Rattle.std.proofs.lemmas.Bool.{cases_Bool, and_parts, and_from, and_cases, and_left, and_right, le-leb, lt-leb, leb-false, ltb-true, ltb-false}
-use Rattle.std.proofs.lemmas.List.{length_push}
+use Rattle.std.proofs.lemmas.Bool.{cases_Bool, and_parts, and_from, and_cases, and_left, and_right, le-leb, lt-leb, ltb-true, ltb-false}
+use Rattle.std.proofs.lemmas.Bool.Decides.{nat_tests}
+use Rattle.std.proofs.lemmas.List.{length-map, length_push}
 use Rattle.rules.specs.Tree.{Head, Name, name_of}
 use Rattle.rules.specs.Refusals.{Outcome, and_then, declared_full, names_full, edges_full}
 use Rattle.rules.specs.Refusals.Outcome.{fine, refused}
@@ -16,7 +17,7 @@ use Rattle.rules.specs.Names.{same}
 use Rattle.rules.specs.Counting.{Event}
 use Rattle.rules.specs.Tables.{Counts, no_rows, Room, some_row, need, declare, fresh, row_of, edge_of, need_name, need_edge, grow_edge, grow_name, hold, enter, fill}
 use Rattle.rules.proofs.SameNames.{same_refl}
-use Rattle.laws.proofs.TablesRows.{with_row, with_change, change_with, with_row_there, with_row_new}
+use Rattle.laws.proofs.TablesRows.{with_row, with_change, change_with, keys_with_change, with_row_there, with_row_new}
 use Rattle.laws.proofs.TablesFilled.{new_edge, adds_edge, adds, held_by, all_held, entered, filled}
 use Rattle.laws.proofs.TablesEdges.{edge_refl}
 
@@ -37,9 +38,9 @@ length_with_row is_it new (r ∷ rs) = elim (is_it r) as (λ b. suc (length rs) 
     [ true ↦ omega arith | false ↦ let q = length_with_row is_it new rs in omega arith ]
 
 length_with_change : {Row : Type 0} (is_it : Row → Bool) (new : Row) (to : Row → Row) (rs : List Row) → length (with_change is_it new to rs) ≡ length (with_row is_it new rs)
-length_with_change is_it new to [] = refl
-length_with_change is_it new to (r ∷ rs) = elim (is_it r) as (λ b. length (if b then to r ∷ rs else r ∷ with_change is_it new to rs) ≡ length (if b then r ∷ rs else r ∷ with_row is_it new rs))
-    [ true ↦ refl | false ↦ ap suc (length_with_change is_it new to rs) ]
+length_with_change {Row} is_it new to rs =
+    let none : Row → ℕ = λ r. 0 in
+    sym (length-map (with_change is_it new to rs) none) ∙ (ap length (keys_with_change none is_it new to (λ r. refl) rs) ∙ length-map (with_row is_it new rs) none)
 
 -- a row is needed
 need_bounded : {Row : Type 0} (is_it : Row → Bool) (new : Row) (space full at : ℕ) (rs : List Row) → leb (length rs) space ≡ true → Bounded (leb (length (with_row is_it new rs)) space) (with_row is_it new rs) (need is_it new space full at rs)
@@ -70,7 +71,7 @@ length_all_declared (h ∷ hs) rows =
 
 -- a size that does not fit stays so
 too_large : (space m n : ℕ) → m ≤ n → leb m space ≡ false → leb n space ≡ false
-too_large space m n l h = let k = leb-false m space h in lt-leb n space (omega arith)
+too_large space m n l h = grind (arith, nat_tests)
 
 declare_onward : (space : ℕ) (hs : List Head) (rows : List Name) → leb (length rows) space ≡ true → Bounded (leb (length (all_declared hs rows)) space) (all_declared hs rows) (declare space hs rows)
 declare_onward space [] rows h = (h, refl)
