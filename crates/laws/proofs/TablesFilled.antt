@@ -15,7 +15,7 @@ use Rattle.rules.specs.Names.{same}
 use Rattle.rules.specs.Counting.{Event}
 use Rattle.rules.specs.Tables.{NameRow, EdgeRow, Counts, some_row, fresh, look, row_of, edge_of, reads, writes}
 use Rattle.rules.proofs.SameNames.{same_eq}
-use Rattle.laws.proofs.Basics.{or_swap, cond_ap, by_same, Commutes}
+use Rattle.laws.proofs.Basics.{or_swap, Commutes}
 use Rattle.laws.proofs.TablesRows.{with_row, with_change, some_with_row, some_with_change}
 
 -- an edge's row before anything is counted
@@ -56,21 +56,12 @@ filled es c = fold (λ (d : Counts) (e : Event). entered e d) c es
 -- A NAME'S ROW
 
 look_with_row : (m n : Name) (rs : List NameRow) → look m (with_row (row_of n) (fresh n) rs) ≡ look m rs
-look_with_row m n [] = by_same m n (λ x b. cond b (fresh x) (fresh m) ≡ fresh m) refl (λ _. refl)
-look_with_row m n (r ∷ rs) = elim (same n r.name) as (λ b. look m (cond b (r ∷ rs) (r ∷ with_row (row_of n) (fresh n) rs)) ≡ look m (r ∷ rs))
-    [ true ↦ refl | false ↦ ap (cond (same m r.name) r) (look_with_row m n rs) ]
+look_with_row m n [] = grind (arith, same_eq m n)
+look_with_row m n (r ∷ rs) = grind (arith, look_with_row m n rs)
 
 look_with_change : (m n : Name) (e : Event) (rs : List NameRow) → look m (with_change (row_of n) (fresh n) (adds e) rs) ≡ cond (same m n) (adds e (look m rs)) (look m rs)
-look_with_change m n e [] = by_same m n (λ x b. cond b (adds e (fresh x)) (fresh m) ≡ cond b (adds e (fresh m)) (fresh m)) refl (λ _. refl)
-look_with_change m n e (r ∷ rs) =
-    let old = look m rs in
-    cond_ap (look m) (same n r.name) (adds e r ∷ rs) (r ∷ with_change (row_of n) (fresh n) (adds e) rs)
-    ∙ by_same n r.name
-    (λ x b. cond b (cond (same m x) (adds e r) old) (cond (same m x) r (look m (with_change (row_of n) (fresh n) (adds e) rs))) ≡ cond (same m n) (adds e (cond (same m x) r old)) (cond (same m x) r old))
-    (grind arith)
-    (λ q. ap (cond (same m r.name) r) (look_with_change m n e rs)
-    ∙ by_same m n (λ y b. same y r.name ≡ false → cond (same m r.name) r (cond b (adds e old) old) ≡ cond b (adds e (cond (same m r.name) r old)) (cond (same m r.name) r old))
-    (λ z. rw z) (λ _ _. refl) q)
+look_with_change m n e [] = grind (arith, same_eq m n)
+look_with_change m n e (r ∷ rs) = grind (arith, look_with_change m n e rs, same_eq n r.name, same_eq m n)
 
 look_all_held : (m : Name) (e : Event) (hs : List Name) (c : Counts) → look m (all_held e hs c).names ≡ look m c.names
 look_all_held m e [] c = refl

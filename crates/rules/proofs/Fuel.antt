@@ -7,8 +7,9 @@
 --   walk_visits                          a walk adds the records of its chain
 --   walk_same, opened, closed            the walk without its fuel
 use Rattle.std.specs.Prelude.{if◌then◌else◌}
-use Rattle.std.proofs.Common.{◌≡◌, ℕ, zero, suc, ◌≤◌, Bool, true, false, not, ◌||◌, eqb, ltb, List, ◌∷◌, sym, refl, ap, ◌∙◌, subst, ⊎_elim, arith}
-use Rattle.std.proofs.lemmas.Bool.{cases_Bool, ltb-false, le-ltb, or_parts, or_from, eqb-true, eqb-false, not-false}
+use Rattle.std.proofs.Common.{◌≡◌, ℕ, zero, suc, ◌≤◌, Bool, true, false, not, ◌||◌, eqb, ltb, List, ◌∷◌, sym, refl, ap, ◌∙◌, subst, arith}
+use Rattle.std.proofs.lemmas.Bool.{eqb-true, eqb-false}
+use Rattle.std.proofs.lemmas.Bool.Decides.{nat_tests}
 use Rattle.rules.specs.Tree.Chain.{end, link}
 use Rattle.rules.specs.Kinds.{member}
 use Rattle.rules.specs.Grammar.{Way, words_fit, children_of, step, misplaced, may_end}
@@ -49,25 +50,11 @@ take_fine words n nesting ways before onward e =
     let misfit = misplaced (step (head_at words n).kind ways) in
     let t = took (ltb (records words) n || member n before) (ltb most_nesting nesting) (misfit || not (words_fit (head_at words n))) n
     (step (head_at words n).kind ways) onward e in
-    let p = or_parts (ltb (records words) n) (member n before) t.0 in
-    let q = or_parts misfit (not (words_fit (head_at words n))) t.2 in (
-      record {
-        within = ltb-false (records words) n p.0;
-        new = p.1;
-        level = ltb-false most_nesting nesting t.1;
-        placed = q.0;
-        fit = not-false (words_fit (head_at words n)) q.1;
-      },
-      t.3,
-    )
+    (record { within = grind (arith, nat_tests); new = grind arith; level = grind (arith, nat_tests); placed = grind arith; fit = grind arith }, t.3)
 
 pub placed_taken : (words : List ℕ) (n nesting : ℕ) (ways : List Way) (before : List ℕ) → Placed words n nesting ways before →
     take words n nesting ways before ≡ fine (step (head_at words n).kind ways)
-placed_taken words n nesting ways before p =
-    let a = or_from (ltb (records words) n) (member n before) (le-ltb (records words) n p.within) p.new in
-    let b = le-ltb most_nesting nesting p.level in
-    let c = or_from (misplaced (step (head_at words n).kind ways)) (not (words_fit (head_at words n))) p.placed (ap not p.fit) in
-    rw (a, b, c)
+placed_taken words n nesting ways before p = grind (arith, nat_tests)
 
 -- a turn of the walk, by the result of its test
 abbrev turn : Bool → List ℕ → (left n nesting : ℕ) → List Way → (parent : ℕ) → (reached : List ℕ) → Outcome Read
@@ -156,13 +143,7 @@ walk_frees words left n nesting ways parent before r e =
 -- where no record is free, none is taken
 take_none : (words : List ℕ) (n nesting : ℕ) (ways : List Way) (before : List ℕ) → 1 ≤ n → free (records words) before ≤ 0 →
     take words n nesting ways before ≡ refused bad_link n
-take_none words n nesting ways before l h =
-    ⊎_elim
-    (λ (e : (ltb (records words) n || member n before) ≡ true). rw e)
-    (λ (e : (ltb (records words) n || member n before) ≡ false).
-    let p = or_parts (ltb (records words) n) (member n before) e in
-    absurd (omega (arith, free_cons (records words) n before l (ltb-false (records words) n p.0) p.1)))
-    (cases_Bool (ltb (records words) n || member n before))
+take_none words n nesting ways before l h = grind (arith, nat_tests, free_cons (records words) n before l)
 
 -- two fuels give the same walks where both suffice
 abbrev Same : List ℕ → ℕ → ℕ → Type 0

@@ -2,7 +2,7 @@
 -- Sound: each look adds only the ends of edges that leave what is found. Complete: a look that adds nothing has shut the set, and one
 -- that adds something leaves fewer edges whose end is missing, of which there are at most as many as looks.
 use Rattle.std.proofs.Common.{◌≡◌, ℕ, ◌+◌, ◌<◌, ◌≤◌, Bool, true, false, not, ◌&&◌, List, [], ◌∷◌, length, sym, refl, ap, ◌∙◌, inl, inr, ⊎_elim, arith}
-use Rattle.std.proofs.lemmas.Bool.{cond_both, and_parts, and_from, both_ways, or_cases, or_parts, or_left, or_right, cases_Bool, not-true, not_from_false, true_from_ne_false}
+use Rattle.std.proofs.lemmas.Bool.{cond_both, and_parts, and_from, both_ways, or_cases, or_left, cases_Bool}
 use Rattle.std.proofs.lemmas.Map.Views.{any-filter_same}
 use Rattle.rules.specs.Tree.{Name}
 use Rattle.rules.specs.Names.{same, among}
@@ -16,8 +16,7 @@ use Rattle.rules.proofs.Sizes.{unless, unless_most, unless_mono}
 -- what is found stays found
 pub along_keeps : (n : Name) (es : List EdgeRow) (ns : List Name) → among n ns ≡ true → among n (along es ns) ≡ true
 along_keeps n [] ns h = h
-along_keeps n (e ∷ es) ns h = cond_both (among e.from ns && not (among e.to ns)) (along es (e.to ∷ ns)) (along es ns) (λ (l : List Name). among n l ≡ true)
-    (λ _. along_keeps n es (e.to ∷ ns) (or_right (same n e.to) (among n ns) h)) (λ _. along_keeps n es ns h)
+along_keeps n (e ∷ es) ns h = grind (arith, along_keeps n es (e.to ∷ ns), along_keeps n es ns)
 
 pub looks_keeps : (n : Name) (xs es : List EdgeRow) (ns : List Name) → among n ns ≡ true → among n (looks xs es ns) ≡ true
 looks_keeps n [] es ns h = h
@@ -60,20 +59,15 @@ missing (e ∷ es) ns = unless (among e.to ns) + missing es ns
 
 -- the end of an edge that does not leave the set
 end_among : (ns : List Name) (e : EdgeRow) (b c : Name) → (b ≡ e.from) × (c ≡ e.to) → open_edge ns e ≡ false → among b ns ≡ true → among c ns ≡ true
-end_among ns e b c z g y = rw z.1 (true_from_ne_false (among e.to ns) (λ u.
-    both_ways (open_edge ns e) g (and_from (among e.from ns) (not (among e.to ns)) (rw z.0 at y) (not_from_false (among e.to ns) u))))
+end_among ns e b c z g y = grind arith
 
 shut_none : (es : List EdgeRow) (ns : List Name) → some_row (open_edge ns) es ≡ false → Shut es ns
 shut_none [] ns g b c x y = absurd x
-shut_none (e ∷ es) ns g b c x y =
-    let q = or_parts (open_edge ns e) (some_row (open_edge ns) es) g in
-    ⊎_elim (λ z. end_among ns e b c z q.0 y) (λ z. shut_none es ns q.1 b c z y) x
+shut_none (e ∷ es) ns g b c x y = grind (arith, shut_none es ns)
 
 along_none : (xs : List EdgeRow) (ns : List Name) → some_row (open_edge ns) xs ≡ false → along xs ns ≡ ns
 along_none [] ns g = refl
-along_none (e ∷ xs) ns g = let q = or_parts (open_edge ns e) (some_row (open_edge ns) xs) g in
-    cond_both (among e.from ns && not (among e.to ns)) (along xs (e.to ∷ ns)) (along xs ns) (λ (l : List Name). l ≡ ns)
-    (λ x. absurd (both_ways (open_edge ns e) q.0 x)) (λ _. along_none xs ns q.1)
+along_none (e ∷ xs) ns g = grind (arith, along_none xs ns)
 
 looks_none : (es xs : List EdgeRow) (ns : List Name) → some_row (open_edge ns) es ≡ false → looks xs es ns ≡ ns
 looks_none es [] ns g = refl
@@ -82,11 +76,8 @@ looks_none es (x ∷ xs) ns g = ap (λ (l : List Name). looks xs es l) (along_no
 -- a round reaches the end of every edge that leaves the set
 along_takes : (xs : List EdgeRow) (ns : List Name) (b c : Name) → Edge xs b c → among b ns ≡ true → among c (along xs ns) ≡ true
 along_takes [] ns b c x y = absurd x
-along_takes (e ∷ xs) ns b c x y = cond_both (among e.from ns && not (among e.to ns)) (along xs (e.to ∷ ns)) (along xs ns) (λ (l : List Name). among c l ≡ true)
-    (λ _. ⊎_elim
-    (λ z. along_keeps c xs (e.to ∷ ns) (or_left (same c e.to) (among c ns) (rw z.1 (same_refl e.to))))
-    (λ z. along_takes xs (e.to ∷ ns) b c z (or_right (same b e.to) (among b ns) y)) x)
-    (λ g. ⊎_elim (λ z. along_keeps c xs ns (end_among ns e b c z g y)) (λ z. along_takes xs ns b c z y) x)
+along_takes (e ∷ xs) ns b c x y =
+    grind (arith, along_takes xs (e.to ∷ ns) b c, along_takes xs ns b c, along_keeps c xs (e.to ∷ ns), along_keeps c xs ns, same_refl e.to)
 
 missing_less : (es : List EdgeRow) (ns ms : List Name) → ((n : Name) → among n ns ≡ true → among n ms ≡ true) → missing es ms ≤ missing es ns
 missing_less [] ns ms f = omega arith
@@ -95,23 +86,16 @@ missing_less (e ∷ es) ns ms f = omega (arith, unless_mono (among e.to ns) (amo
 missing_falls : (es : List EdgeRow) (ns ms : List Name) → ((n : Name) → among n ns ≡ true → among n ms ≡ true) → ((b c : Name) → Edge es b c → among b ns ≡ true → among c ms ≡ true)
     → some_row (open_edge ns) es ≡ true → missing es ms < missing es ns
 missing_falls [] ns ms f g x = absurd (both_ways false refl x)
-missing_falls (e ∷ es) ns ms f g x = ⊎_elim
-    (λ y.
-    let q = and_parts (among e.from ns) (not (among e.to ns)) y in
-    omega (arith, ap unless (not-true (among e.to ns) q.1), ap unless (g e.from e.to (inl (refl, refl)) q.0), missing_less es ns ms f))
-    (λ y. omega (arith, unless_mono (among e.to ns) (among e.to ms) (f e.to), missing_falls es ns ms f (λ p q z. g p q (inr z)) y))
-    (or_cases (open_edge ns e) (some_row (open_edge ns) es) x)
+missing_falls (e ∷ es) ns ms f g x = grind (arith, missing_falls es ns ms f (λ b c z. g b c (inr z)), missing_less es ns ms f, unless_mono (among e.to ns) (among e.to ms) (f e.to), g e.from e.to (inl (refl, refl)))
 
 missing_none : (es : List EdgeRow) (ns : List Name) → missing es ns ≤ 0 → (b c : Name) → Edge es b c → among c ns ≡ true
 missing_none [] ns h b c x = absurd x
-missing_none (e ∷ es) ns h b c x = ⊎_elim
-    (λ z. rw z.1 (true_from_ne_false (among e.to ns) (λ u. omega (arith, ap unless u))))
-    (λ z. missing_none es ns (omega arith) b c z) x
+missing_none (e ∷ es) ns h b c x = grind (arith, missing_none es ns (omega arith) b c)
 
 looks_shut : (es xs : List EdgeRow) (ns : List Name) → missing es ns ≤ length xs → Shut es (looks xs es ns)
 looks_shut es [] ns h = λ b c x y. missing_none es ns h b c x
 looks_shut es (w ∷ xs) ns h = ⊎_elim
-    (λ g. looks_shut es xs (along es ns) (let k = missing_falls es ns (along es ns) (λ n. along_keeps n es ns) (along_takes es ns) g in omega arith))
+    (λ g. looks_shut es xs (along es ns) (omega (arith, missing_falls es ns (along es ns) (λ n. along_keeps n es ns) (along_takes es ns) g)))
     (λ g. rw (looks_none es (w ∷ xs) ns g) (shut_none es ns g))
     (cases_Bool (some_row (open_edge ns) es))
 

@@ -74,9 +74,7 @@ chain_more words (suc left) n holds =
     (λ (z : n ≡ 0 → ⊥).
     let l : 1 ≤ n = omega arith in
     let h = linked words left n l holds in
-    chain_link words (suc left) n l
-    ∙ ap₂ (λ (children rest : Chain). link (head_at words n) children rest) (chain_more words left (first_child words n) h.1) (chain_more words left (next words n) h.2)
-    ∙ sym (chain_link words left n l))
+    cc (chain_link words (suc left) n l, chain_link words left n l, chain_more words left (first_child words n) h.1, chain_more words left (next words n) h.2))
     (cases_eq n 0)
 
 -- the chain at a record, with this fuel

@@ -6,15 +6,16 @@
 --   chain_walked                                      what the words hold is read
 --   check_sound, check_complete, check_most           the theorems
 use Rattle.std.specs.Prelude.{if◌then◌else◌}
-use Rattle.std.proofs.Common.{◌≡◌, ℕ, suc, ◌≤◌, Bool, true, false, ◌&&◌, eqb, leb, List, [], ◌∷◌, length, sym, refl, ap, ◌∙◌, subst, inl, inr, arith}
-use Rattle.std.proofs.lemmas.Bool.{false_from_ne_true, both_ways, eq-eqb, ne_eqb, eqb-true, le-leb, or_right, or_parts, and_from, and_parts}
+use Rattle.std.proofs.Common.{◌≡◌, ℕ, suc, ◌≤◌, Bool, true, false, eqb, List, [], ◌∷◌, length, sym, refl, ap, ◌∙◌, subst, inl, inr, arith}
+use Rattle.std.proofs.lemmas.Bool.{false_from_ne_true, both_ways, eq-eqb, ne_eqb, eqb-true, or_right, or_parts}
+use Rattle.std.proofs.lemmas.Bool.Decides.{nat_tests}
 use Rattle.rules.specs.Tree.{Head, Chain}
 use Rattle.rules.specs.Tree.Chain.{end, link}
-use Rattle.rules.specs.Kinds.{member, within, known}
-use Rattle.rules.specs.Grammar.{Way, flags_fit, name_fits, children_of, step, root}
+use Rattle.rules.specs.Kinds.{member}
+use Rattle.rules.specs.Grammar.{Way, children_of, step, root}
 use Rattle.rules.specs.Refusals.{Outcome, and_then, bad_lengths, bad_record}
 use Rattle.rules.specs.Refusals.Outcome.{fine, refused}
-use Rattle.rules.specs.Words.{records, word, head_at, stands, first_child, next, Holds}
+use Rattle.rules.specs.Words.{records, head_at, stands, first_child, next, Holds}
 use Rattle.rules.specs.Check.{Read, walk, tree_fits}
 use Rattle.rules.specs.Held.{Numbers, Apart, Level, Formed}
 use Rattle.rules.specs.Walks.{full}
@@ -36,11 +37,7 @@ good_end words n nesting ways before z e =
     record { holds = z; level = tt; formed = e; apart = tt; fresh = λ x i. absurd i; visits = refl }
 
 placed_stands : (words : List ℕ) (n nesting : ℕ) (ways : List Way) (before : List ℕ) → 1 ≤ n → Placed words n nesting ways before → stands words n ≡ true
-placed_stands words n nesting ways before l p =
-    let h = head_at words n in
-    and_from (within 1 (records words) n) (known (word words n 0))
-    (and_from (leb 1 n) (leb n (records words)) (le-leb 1 n l) (le-leb n (records words) p.within))
-    (and_parts (known h.kind) (flags_fit h) (and_parts (known h.kind && flags_fit h) (name_fits h) p.fit).0).0
+placed_stands words n nesting ways before l p = grind (arith, nat_tests, p.within, p.fit)
 
 good_record : (words : List ℕ) → AtRecord words (Good words)
 good_record words n nesting ways before below rest l p g h =
