@@ -5,9 +5,9 @@
 --   closed_alike, discount_alike      closed rings; a discounted row
 --   rows_alike                        a name's row after the rings are discounted
 use Rattle.std.specs.Prelude.{if◌then◌else◌}
-use Rattle.std.proofs.Common.{◌≡◌, Bool, true, false, not, ◌&&◌, List, [], ◌∷◌, sym, ap, ◌∙◌, subst, ap₂, inl, inr, arith}
+use Rattle.std.proofs.Common.{◌≡◌, Bool, true, false, not, ◌&&◌, List, [], ◌∷◌, sym, ap, ◌∙◌, ap₂, arith}
 use mathlib.Core.Path.{fun_ext}
-use Rattle.std.proofs.lemmas.Bool.{false≢true, and_from, or_cases, or_left, or_right}
+use Rattle.std.proofs.lemmas.Bool.{false≢true}
 use Rattle.std.proofs.lemmas.List.Folds.{Any-from_list_any, list_any-from_Any}
 use Rattle.std.proofs.lemmas.Map.Views.{Contains-from_any, list_any-from_Contains}
 use Rattle.rules.specs.Tree.{Name}
@@ -18,7 +18,7 @@ use Rattle.rules.specs.Rings.Leads.{here, onward}
 use Rattle.rules.proofs.SameNames.{same_eq, same_refl, same_laws}
 use Rattle.rules.proofs.Leading.{component_told}
 use Rattle.laws.proofs.TablesFilled.{some_entry}
-use Rattle.laws.proofs.TablesEdges.{edge_eq, some_edge, weights}
+use Rattle.laws.proofs.TablesEdges.{some_edge, weights}
 use Rattle.laws.proofs.RingsDiscount.{look_discount}
 use Rattle.laws.proofs.AlikeTables.{Alike}
 
@@ -28,13 +28,11 @@ is a b x y = same a x && same b y
 
 edge_found : (es : List EdgeRow) (a b : Name) → Edge es a b → some_edge (is a b) es ≡ true
 edge_found [] a b h = absurd h
-edge_found (e ∷ es) a b (inl p) = or_left (is a b e.from e.to) (some_edge (is a b) es)
-    (and_from (same a e.from) (same b e.to) (subst (λ (x : Name). same a x ≡ true) p.0 (same_refl a)) (subst (λ (x : Name). same b x ≡ true) p.1 (same_refl b)))
-edge_found (e ∷ es) a b (inr p) = or_right (is a b e.from e.to) (some_edge (is a b) es) (edge_found es a b p)
+edge_found (e ∷ es) a b h = grind (arith, edge_found es a b, same_refl a, same_refl b)
 
 found_edge : (es : List EdgeRow) (a b : Name) → some_edge (is a b) es ≡ true → Edge es a b
 found_edge [] a b h = absurd (false≢true h)
-found_edge (e ∷ es) a b h = elim (or_cases (is a b e.from e.to) (some_edge (is a b) es) h) [ inl q ↦ inl (edge_eq a b e q) | inr q ↦ inr (found_edge es a b q) ]
+found_edge (e ∷ es) a b h = grind (arith, found_edge es a b, same_eq a e.from, same_eq b e.to)
 
 leads_more : (es fs : List EdgeRow) → ((a b : Name) → Edge es a b → Edge fs a b) → (a : Name) {b : Name} → Leads es a b → Leads fs a b
 leads_more es fs h a here = here

@@ -5,8 +5,9 @@
 --   HeldInRing, unused_within, unread_within      the references to a free name
 --   taken_unused, gave_unread                     the names taken and given
 use Rattle.std.specs.Prelude.{if◌then◌else◌}
-use Rattle.std.proofs.Common.{◌≡◌, ◌≤◌, Bool, true, false, not, ◌&&◌, ◌||◌, eqb, List, [], ◌∷◌, ◌++◌, sym, refl, ◌∙◌, subst, ⊎_elim, arith}
-use Rattle.std.proofs.lemmas.Bool.{and_parts, both_ways, or_cases, or_left, or_right, eqb-true, cases_Bool, not-true}
+use Rattle.std.proofs.Common.{◌≡◌, ◌≤◌, Bool, true, false, List, [], ◌∷◌, ◌++◌, sym, refl, ◌∙◌, subst, ⊎_elim, arith}
+use Rattle.std.proofs.lemmas.Bool.{and_parts, or_left, or_right, false_from_ne_true, cases_Bool}
+use Rattle.std.proofs.lemmas.Bool.Decides.{nat_tests}
 use Rattle.rules.specs.Tree.{Head, Chain, Name, flagged, is_end, first_is, first_name}
 use Rattle.rules.specs.Tree.Chain.{end, link}
 use Rattle.rules.specs.Kinds.{name_pattern}
@@ -27,13 +28,10 @@ use Rattle.laws.proofs.RingsClosed.{closed_edge, closed_entry}
 -- ROWS
 
 unused_zero : (r : NameRow) → unused r ≡ true → r.counted ≡ true → (r.usage ≡ 0) × (r.assign ≡ 0)
-unused_zero r g c = ⊎_elim
-    (λ x. absurd (both_ways r.counted (not-true r.counted x) c))
-    (λ x. let p = and_parts (eqb r.usage 0) (eqb r.assign 0) x in (eqb-true r.usage 0 p.0, eqb-true r.assign 0 p.1))
-    (or_cases (not r.counted) (eqb r.usage 0 && eqb r.assign 0) g)
+unused_zero r g c = grind (arith, nat_tests)
 
 unread_zero : (k : Config) (r : NameRow) → never_read k r ≡ true → r.usage ≡ 0
-unread_zero k r g = eqb-true r.usage 0 (and_parts (eqb r.usage 0) (k.top_level || not r.entry) (and_parts r.counted _ g).1).0
+unread_zero k r g = grind (arith, nat_tests)
 
 -- the references to a name that is free: it stands in a closed ring, and its references have holders, all of that ring
 pub record HeldInRing (c : Counts) (e : Event) : Type 0 where
@@ -49,9 +47,8 @@ module _ (es : List Event) (e : Event) (r : Reference e) (x : In e es) where
   closed_within : closed c e.name ≡ true → HeldInRing c e
   closed_within g = record {
     ring = g;
-    held = ⊎_elim
-        (λ u. absurd (closed_entry c e.name g (event_row (λ (s : NameRow). s.entry ≡ true) (λ v s y. or_left s.entry v.entry y) e (λ s. or_right s.entry e.entry (r ∙ u)) es no_rows x)))
-        (λ u. u) (cases_Bool (unheld e.holders));
+    held = false_from_ne_true (unheld e.holders)
+        (λ u. closed_entry c e.name g (event_row (λ (s : NameRow). s.entry ≡ true) (λ v s y. or_left s.entry v.entry y) e (λ s. or_right s.entry e.entry (r ∙ u)) es no_rows x));
     shares = λ m h. closed_edge c m e.name g (λ p y. event_edge p e m h y es no_rows x);
   }
 

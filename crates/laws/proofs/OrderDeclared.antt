@@ -6,12 +6,12 @@
 --   has_symbol                             a record of a named kind has a symbol
 --   symbols_of_tree                        the rows of a tree formed by the table of kinds
 use Rattle.std.specs.Prelude.{if◌then◌else◌}
-use Rattle.std.proofs.Common.{◌≡◌, ℕ, Bool, true, false, not, ◌&&◌, ◌||◌, eqb, List, [], ◌∷◌, ◌++◌, length, sym, refl, ap, ◌∙◌, subst, inl, inr, arith}
-use Rattle.std.proofs.lemmas.Bool.{or_cases, and_parts, not-true, eqb-true}
-use Rattle.rules.specs.Tree.{Head, Chain, Name, ◌is◌, name_of}
+use Rattle.std.proofs.Common.{◌≡◌, ℕ, Bool, true, false, ◌||◌, eqb, List, [], ◌∷◌, ◌++◌, length, sym, refl, ap, ◌∙◌, subst, arith}
+use Rattle.std.proofs.lemmas.Bool.Decides.{nat_tests}
+use Rattle.rules.specs.Tree.{Head, Chain, Name, name_of}
 use Rattle.rules.specs.Tree.Chain.{end, link}
-use Rattle.rules.specs.Kinds.{specifier, fn_declaration, class_declaration, name_pattern, property_name, member, known, definition_expression}
-use Rattle.rules.specs.Grammar.{named, name_fits, flags_fit, words_fit, Way, children_of, step, root}
+use Rattle.rules.specs.Kinds.{specifier, fn_declaration, class_declaration, member}
+use Rattle.rules.specs.Grammar.{named, words_fit, Way, children_of, step, root}
 use Rattle.rules.specs.Held.{Formed}
 use Rattle.rules.specs.Names.{same, among, names_of, binds, keep, Under, under_nothing, under, declares, declaring, declared}
 use Rattle.rules.specs.Tables.{some_row}
@@ -62,27 +62,16 @@ symbols_declared (h ∷ hs) rows p q = symbols_declared hs (with_row (same (name
 
 -- a record of a named kind has a symbol
 has_symbol : (h : Head) → words_fit h ≡ true → named h.kind ≡ true → eqb h.symbol 0 ≡ false
-has_symbol h w q =
-    let fits = (and_parts (known h.kind && flags_fit h) (name_fits h) w).1 in
-    not-true (eqb h.symbol 0) (rw q at fits)
+has_symbol h w q = grind (arith, nat_tests)
 
 declarations_named : (k : ℕ) → member k (specifier ∷ fn_declaration ∷ class_declaration ∷ []) ≡ true → named k ≡ true
 declarations_named k = each_member (λ (j : ℕ). named j ≡ true) k (specifier ∷ fn_declaration ∷ class_declaration ∷ []) (refl, (refl, (refl, tt)))
 
 binders_named : (h : Head) → binds h ≡ true → named h.kind ≡ true
-binders_named h e = elim (or_cases (h is name_pattern) (h is property_name) e) [
-  | inl q ↦ rw (eqb-true h.kind name_pattern q)
-  | inr q ↦ rw (eqb-true h.kind property_name q)
-]
+binders_named h e = grind (arith, nat_tests)
 
 declares_symbol : (u : Under) (h : Head) → words_fit h ≡ true → declares u h ≡ true → eqb h.symbol 0 ≡ false
-declares_symbol u h p e = elim (or_cases (member h.kind (specifier ∷ fn_declaration ∷ class_declaration ∷ []) || (u.binding && binds h)) (u.default && definition_expression h.kind && not (eqb h.symbol 0)) e) [
-  | inl q ↦ elim (or_cases (member h.kind (specifier ∷ fn_declaration ∷ class_declaration ∷ [])) (u.binding && binds h) q) [
-    | inl q ↦ has_symbol h p (declarations_named h.kind q)
-    | inr q ↦ has_symbol h p (binders_named h (and_parts u.binding (binds h) q).1)
-  ]
-  | inr q ↦ not-true (eqb h.symbol 0) (and_parts (u.default && definition_expression h.kind) (not (eqb h.symbol 0)) q).1
-]
+declares_symbol u h p e = grind (arith, nat_tests, has_symbol h p, declarations_named h.kind, binders_named h)
 
 symbols-++ : (xs ys : List Head) → Symbols (names_of xs) → Symbols (names_of ys) → Symbols (names_of (xs ++ ys))
 symbols-++ [] ys p q = q

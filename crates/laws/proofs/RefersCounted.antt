@@ -2,31 +2,21 @@
 --
 --   count_refers, refers_count      an event of the count is a reference of the tree, and back
 use Rattle.std.specs.Prelude.{if◌then◌else◌}
-use Rattle.std.proofs.Common.{◌≡◌, ℕ, Bool, true, false, ◌&&◌, ◌||◌, List, [], ◌∷◌, ◌++◌, sym, refl, ap, ◌∙◌, subst, inl, inr, ⊎_elim}
+use Rattle.std.proofs.Common.{◌≡◌, ℕ, Bool, true, false, ◌&&◌, List, [], ◌∷◌, ◌++◌, sym, refl, ap, ◌∙◌, subst, inl, inr, ⊎_elim, arith}
 use Rattle.std.proofs.lemmas.Bool.{both_ways}
 use Rattle.rules.specs.Tree.{Head, Chain, Name, ◌is◌}
 use Rattle.rules.specs.Tree.Chain.{end, link}
-use Rattle.rules.specs.Kinds.{export_declaration, export_name, function, identifier, call_expression, name_pattern, property_name}
+use Rattle.rules.specs.Kinds.{export_declaration, function}
 use Rattle.rules.specs.Names.{names_of, distinct, bound, declared_below, exported}
-use Rattle.rules.specs.Counting.{Event, unheld, Found, nothing, Around, reading, writing, readings, marks, named_here, calls_eval, own, opens, leave, inside, count}
+use Rattle.rules.specs.Counting.{Event, unheld, Found, nothing, Around, reading, readings, marks, own, opens, leave, inside, count}
 use Rattle.rules.specs.Law.{In, Reference}
 use Rattle.laws.proofs.Basics.{in_append, in_left, in_right}
 use Rattle.laws.proofs.RefersExported.{in_exported, exported_in}
 use Rattle.laws.proofs.Refers.{Refers}
 
 -- what a record refers to does not hang on its children
-own_cases : (x y z t : Bool) (r w n : Found) (b d : Bool)
-    → (if x then r else if y then w else if z then n else if t then record { events = []; found_arguments = false; found_direct_eval = b } else nothing).events
-    ≡ (if x then r else if y then w else if z then n else if t then record { events = []; found_arguments = false; found_direct_eval = d } else nothing).events
-own_cases true y z t r w n b d = refl
-own_cases false true z t r w n b d = refl
-own_cases false false true t r w n b d = refl
-own_cases false false false true r w n b d = refl
-own_cases false false false false r w n b d = refl
-
 own_events : (a : Around) (h : Head) (cs : Chain) → (own a h cs).events ≡ (own a h end).events
-own_events a h cs =
-    own_cases (h is identifier || h is export_name) (h is property_name) (h is name_pattern) (h is call_expression) (reading a h) (writing a h) (named_here a a.role h) (calls_eval cs) (calls_eval end)
+own_events a h cs = grind arith
 
 -- an event that is there only under a test
 in_found : (e : Event) (b : Bool) (f : Found) → In e (if b then f else nothing).events → (b ≡ true) × In e f.events

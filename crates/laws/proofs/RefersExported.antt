@@ -4,11 +4,12 @@
 --   Exports, in_exported, exported_in      the records that an Export declaration exports, place by place
 --   treat_exports                          none comes by a removal
 use Rattle.std.specs.Prelude.{if◌then◌else◌}
-use Rattle.std.proofs.Common.{◌≡◌, ℕ, Bool, true, false, ◌||◌, eqb, ◌⊎◌, List, [], ◌++◌, sym, refl, subst, inl, inr, ⊎_elim}
-use Rattle.std.proofs.lemmas.Bool.{cond_both, both_ways, eqb-true, cases_Bool}
+use Rattle.std.proofs.Common.{◌≡◌, ℕ, Bool, true, false, ◌||◌, eqb, ◌⊎◌, List, [], ◌++◌, sym, refl, subst, inl, inr, ⊎_elim, arith}
+use Rattle.std.proofs.lemmas.Bool.{cond_both, both_ways}
+use Rattle.std.proofs.lemmas.Bool.Decides.{nat_tests}
 use Rattle.rules.specs.Tree.{Head, Chain, ◌is◌, is_end, after, alone, append}
 use Rattle.rules.specs.Tree.Chain.{end, link}
-use Rattle.rules.specs.Kinds.{fn_declaration, class_declaration, var_declaration, declarator, name_pattern, compound_pattern, default_pattern, property_name, expression}
+use Rattle.rules.specs.Kinds.{fn_declaration, class_declaration, var_declaration, declarator, expression}
 use Rattle.rules.specs.Grammar.{Way, assigned, children_of, step}
 use Rattle.rules.specs.Held.{Formed}
 use Rattle.rules.specs.Names.{binds, nests, keep, exported}
@@ -60,17 +61,13 @@ exported_in g (link h cs rest) x =
 
 -- an expression is of no other kind
 pub other_kind : (k m : ℕ) → expression k ≡ true → expression m ≡ false → eqb k m ≡ false
-other_kind k m x y = ⊎_elim
-    (λ e. absurd (both_ways (expression m) y (subst (λ (j : ℕ). expression j ≡ true) (eqb-true k m e) x)))
-    (λ e. e) (cases_Bool (eqb k m))
+other_kind k m x y = grind (arith, nat_tests)
 
 expression_bears : (h : Head) → expression h.kind ≡ true → bears h ≡ false
-expression_bears h x = let k = h.kind in
-    rw (other_kind k fn_declaration x refl, other_kind k class_declaration x refl, other_kind k name_pattern x refl, other_kind k property_name x refl)
+expression_bears h x = grind (arith, nat_tests)
 
 expression_carries : (h : Head) → expression h.kind ≡ true → carries h ≡ false
-expression_carries h x = let k = h.kind in
-    rw (other_kind k var_declaration x refl, other_kind k declarator x refl, other_kind k compound_pattern x refl, other_kind k default_pattern x refl)
+expression_carries h x = grind (arith, nat_tests)
 
 module _ (g : Head) where
   exports_append : (c d : Chain) → Exports g (append c d) → Exports g c ⊎ Exports g d

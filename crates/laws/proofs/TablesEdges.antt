@@ -70,16 +70,10 @@ abbrev pub weights : (assigns : Bool) → (Name → Name → Bool) → List Edge
 weights a p rs = total (λ r. p r.from r.to) (weight a) rs
 
 new_share : (a b : Bool) (f t : Name) (e : Event) → (if b then weight a (adds_edge e (new_edge f t)) else 0) ≡ (if b then weighs a e else 0)
-new_share true true f t e = omega arith
-new_share false true f t e = omega arith
-new_share true false f t e = refl
-new_share false false f t e = refl
+new_share a b f t e = grind arith
 
 more_share : (a b : Bool) (r : EdgeRow) (e : Event) → (if b then weight a (adds_edge e r) else 0) ≡ (if b then weight a r else 0) + (if b then weighs a e else 0)
-more_share true true r e = omega arith
-more_share false true r e = omega arith
-more_share true false r e = refl
-more_share false false r e = refl
+more_share a b r e = grind arith
 
 weights_changed : (a : Bool) (p : Name → Name → Bool) (f t : Name) (e : Event) (rs : List EdgeRow) → weights a p (with_change (edge_of f t) (new_edge f t) (adds_edge e) rs) ≡ weights a p rs + (if p f t then weighs a e else 0)
 weights_changed a p f t e rs = total_with_change (λ r. p r.from r.to) (weight a) (edge_of f t) (new_edge f t) (adds_edge e) (if p f t then weighs a e else 0)

@@ -5,9 +5,8 @@
 --   fits, Larger                   the rows fit; tables grow
 --   all_declared, declare_bounded  the declared names, each once
 --   fill_bounded                   names and edges
-use Rattle.std.specs.Prelude.{if◌then◌else◌}
-use Rattle.std.proofs.Common.{◌≡◌, ℕ, suc, ◌+◌, ◌≤◌, Bool, true, false, ◌&&◌, ltb, leb, List, [], ◌∷◌, length, sym, refl, ap, ◌∙◌, subst, inl, inr, arith}
-use Rattle.std.proofs.lemmas.Bool.{cases_Bool, and_parts, and_from, and_cases, and_left, and_right, le-leb, lt-leb, ltb-true, ltb-false}
+use Rattle.std.proofs.Common.{◌≡◌, ℕ, ◌+◌, ◌≤◌, Bool, true, false, ◌&&◌, ltb, leb, List, [], ◌∷◌, length, sym, refl, ap, ◌∙◌, subst, inl, inr, arith}
+use Rattle.std.proofs.lemmas.Bool.{cases_Bool, and_parts, and_from, and_left, and_right, le-leb, lt-leb, ltb-true, ltb-false}
 use Rattle.std.proofs.lemmas.Bool.Decides.{nat_tests}
 use Rattle.std.proofs.lemmas.List.{length-map, length_push}
 use Rattle.rules.specs.Tree.{Head, Name, name_of}
@@ -34,8 +33,7 @@ then_bounded (refused number at) f b a b' a' h g k = k h
 
 length_with_row : {Row : Type 0} (is_it : Row → Bool) (new : Row) (rs : List Row) → length rs ≤ length (with_row is_it new rs)
 length_with_row is_it new [] = omega arith
-length_with_row is_it new (r ∷ rs) = elim (is_it r) as (λ b. suc (length rs) ≤ length (if b then r ∷ rs else r ∷ with_row is_it new rs))
-    [ true ↦ omega arith | false ↦ let q = length_with_row is_it new rs in omega arith ]
+length_with_row is_it new (r ∷ rs) = grind (arith, length_with_row is_it new rs)
 
 length_with_change : {Row : Type 0} (is_it : Row → Bool) (new : Row) (to : Row → Row) (rs : List Row) → length (with_change is_it new to rs) ≡ length (with_row is_it new rs)
 length_with_change {Row} is_it new to rs =
@@ -100,10 +98,7 @@ larger_than : {c d f : Counts} → Larger c d → Larger d f → Larger c f
 larger_than p q = record { names = let a = p.names in let b = q.names in omega arith; edges = let a = p.edges in let b = q.edges in omega arith }
 
 full_stays : (space : Room) {c d : Counts} → Larger c d → fits space c ≡ false → fits space d ≡ false
-full_stays space {c} {d} l h = elim (and_cases (leb (length c.names) space.names) (leb (length c.edges) space.edges) h) [
-  | inl q ↦ and_left (leb (length d.names) space.names) (leb (length d.edges) space.edges) (too_large space.names (length c.names) (length d.names) l.names q)
-  | inr q ↦ and_right (leb (length d.names) space.names) (leb (length d.edges) space.edges) (too_large space.edges (length c.edges) (length d.edges) l.edges q)
-]
+full_stays space {c} {d} l h = grind (arith, nat_tests, l.names, l.edges)
 
 -- a name's row is there
 abbrev name_there : Name → Counts → Counts

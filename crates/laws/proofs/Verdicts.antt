@@ -9,13 +9,13 @@
 --   emptying_kind                                                 the kinds that become Empty
 --   entered_anywhere                                              outside a For it does not matter whether a record comes last
 --   Wraps, wraps                                                  the parts of a Call that wraps an Object
-use Rattle.std.proofs.Common.{◌≡◌, ℕ, Bool, true, false, not, ◌||◌, eqb, List, [], ◌∷◌, refl, arith}
+use Rattle.std.proofs.Common.{◌≡◌, ℕ, Bool, true, false, eqb, List, [], ◌∷◌, refl, arith}
 use Rattle.std.proofs.lemmas.Bool.{cond_both, both_ways, eqb-true}
 use Rattle.std.proofs.lemmas.Bool.Decides.{nat_tests}
-use Rattle.rules.specs.Tree.{Head, Chain, Name, ◌is◌, flagged, name_of, is_end, below, after, first_is, first_flagged, first_symbol, first_name}
+use Rattle.rules.specs.Tree.{Head, Chain, Name, flagged, name_of, is_end, below, first_is, first_name}
 use Rattle.rules.specs.Tree.Chain.{end, link}
-use Rattle.rules.specs.Kinds.{module_root, script_root, import_item, specifier, block, plain_statement, fn_declaration, class_declaration, var_declaration, for_statement, declarator, function_expression, object, call_expression, assignment, name_pattern, member}
-use Rattle.rules.specs.Removal.{By, Place, permitted, retained, unused, never_read, can_drop_binding, first_acts, has_list, entered, name_goes, all_go, only_identifiers, wraps_object, wrapped_object, fn_goes, class_goes, declarator_goes, specifier_goes, import_emptied, var_emptied, var_restates, assignment_yields, call_unwraps, Verdict, verdict, Left, unchanged, done, treated}
+use Rattle.rules.specs.Kinds.{module_root, script_root, import_item, specifier, block, plain_statement, fn_declaration, class_declaration, var_declaration, for_statement, declarator, function_expression, object, call_expression, assignment, member}
+use Rattle.rules.specs.Removal.{By, Place, unused, never_read, can_drop_binding, has_list, entered, all_go, only_identifiers, wraps_object, wrapped_object, fn_goes, class_goes, declarator_goes, specifier_goes, import_emptied, var_emptied, var_restates, assignment_yields, call_unwraps, Verdict, verdict, Left, unchanged, done, treated}
 use Rattle.rules.specs.Removal.Verdict.{stays, sweeps, empties, unlinks, restates, yields, unwraps}
 use Rattle.laws.proofs.Basics.{each_member}
 use Rattle.laws.proofs.Formed.{first_kind}
