@@ -48,11 +48,11 @@ by_same = by_equal same same_eq same_refl
 
 pub in_append : {A : Type 0} (x : A) (xs ys : List A) → In x (xs ++ ys) → In x xs ⊎ In x ys
 in_append x [] ys h = inr h
-in_append x (y ∷ xs) ys h = ⊎_elim (λ e. inl (inl e)) (λ k. ⊎_elim (λ m. inl (inr m)) (λ m. inr m) (in_append x xs ys k)) h
+in_append x (y ∷ xs) ys h = grind (arith, in_append x xs ys)
 
 pub in_left : {A : Type 0} (x : A) (xs ys : List A) → In x xs → In x (xs ++ ys)
 in_left x [] ys h = absurd h
-in_left x (y ∷ xs) ys h = ⊎_elim (λ e. inl e) (λ k. inr (in_left x xs ys k)) h
+in_left x (y ∷ xs) ys h = grind (arith, in_left x xs ys)
 
 pub in_right : {A : Type 0} (x : A) (xs ys : List A) → In x ys → In x (xs ++ ys)
 in_right x [] ys h = h

@@ -79,14 +79,11 @@ module _ (es : List Event) (e : Event) (r : Reference e) (x : In e es) where
 
 in_unused : (by : By) (n : Name) (ns : List Name) → Unused by ns → In n ns → unused (by.row n) ≡ true
 in_unused by n [] u x = absurd x
-in_unused by n (m ∷ ns) u x = ⊎_elim (λ y. subst (λ (k : Name). unused (by.row k) ≡ true) (sym y) u.0) (λ y. in_unused by n ns u.1 y) x
+in_unused by n (m ∷ ns) u x = grind (arith, in_unused by n ns)
 
 all_unused : (by : By) (p : Place) (v : Bool) (c : Chain) → all_go by p v c ≡ true → Unused by (declarator_names c)
 all_unused by p v end g = tt
-all_unused by p v (link d parts rest) g =
-    let a = and_parts (name_goes by p v parts) (all_go by p v rest) g in
-    let b = and_parts (first_is name_pattern parts) (can_drop_binding by p v (first_name parts)) a.0 in
-    (can_unused by p v (first_name parts) b.1, all_unused by p v rest a.1)
+all_unused by p v (link d parts rest) g = (can_unused by p v (first_name parts) (grind arith), all_unused by p v rest (grind arith))
 
 takes_unused : (by : By) (p : Place) (h : Head) (found children : Chain) (n : Name) (v : Verdict) → Means by p h found children v → In n (takes v children) → unused (by.row n) ≡ true
 takes_unused by p h found children n stays m x = absurd x

@@ -8,7 +8,7 @@
 --   remains_unnumbered                record numbers apart
 --   root_treated                      what is left of a root that does not begin with 'use asm'
 use Rattle.std.specs.Prelude.{if◌then◌else◌}
-use Rattle.std.proofs.Common.{◌≡◌, Bool, true, false, not, ◌&&◌, ◌||◌, eqb, sym, refl, ap, ◌∙◌, subst₂}
+use Rattle.std.proofs.Common.{◌≡◌, Bool, true, false, not, ◌&&◌, ◌||◌, eqb, sym, refl, ap, ◌∙◌, subst₂, arith}
 use Rattle.rules.specs.Tree.{Head, Chain, ◌is◌, is_end, append, unnumbered}
 use Rattle.rules.specs.Tree.Chain.{end, link}
 use Rattle.rules.specs.Kinds.{module_root, script_root, empty_statement, block, for_statement}
@@ -59,9 +59,7 @@ remains by p c = swept (treat by p c).chain
 
 swept_append : (c d : Chain) → swept (append c d) ≡ append (swept c) (swept d)
 swept_append end d = refl
-swept_append (link h cs rest) d =
-    ap (λ (z : Chain). if h is empty_statement || (h is block && is_end cs) then z else link h cs z) (swept_append rest d)
-    ∙ sym (cond_ap (λ (z : Chain). append z (swept d)) (h is empty_statement || (h is block && is_end cs)) (swept rest) (link h cs (swept rest)))
+swept_append (link h cs rest) d = grind (arith, swept_append rest d)
 
 module _ (by : By) (p : Place) (quiet : eqb p.parent for_statement ≡ false) where
   treat_link : (h : Head) (cs rest : Chain) → treat by p (link h cs rest) ≡ both (item_left by p h cs) (treat by p rest)

@@ -89,10 +89,7 @@ rooted_as m (link h cs rest) q f =
 
 item_missing : (n : ℕ) (c : Chain) → (Numbers n c → ⊥) → item_at n c ≡ end
 item_missing n end f = refl
-item_missing n (link h cs rest) f = elim (cases_Bool (eqb n h.number)) [
-  | inl e ↦ absurd (f (inl (eqb-true n h.number e)))
-  | inr e ↦ rw e (item_missing n rest (λ x. f (inr (inr x))))
-]
+item_missing n (link h cs rest) f = grind (arith, nat_tests, item_missing n rest (λ x. f (inr (inr x))))
 
 formed_items : (sort : ℕ → Bool) → ((k : ℕ) → sort k ≡ true → expression k ≡ false) → (c : Chain) → Formed (list_of sort) c → Apart c → Items c
 formed_items sort plain end f a = tt

@@ -72,29 +72,24 @@ expression_carries h x = grind (arith, nat_tests)
 module _ (g : Head) where
   exports_append : (c d : Chain) → Exports g (append c d) → Exports g c ⊎ Exports g d
   exports_append end d x = inr x
-  exports_append (link h cs rest) d x = ⊎_elim (λ y. inl (inl y))
-      (λ y. ⊎_elim (λ z. inl (inr (inl z))) (λ z. ⊎_elim (λ w. inl (inr (inr w))) (λ w. inr w) (exports_append rest d z)) y) x
+  exports_append (link h cs rest) d x = grind (arith, exports_append rest d)
 
   pub exports_swept : (c : Chain) → Exports g (swept c) → Exports g c
-  exports_swept end = λ x. x
-  exports_swept (link h cs rest) = cond_both _ (swept rest) (link h cs (swept rest)) (λ (c : Chain). Exports g c → Exports g (link h cs rest))
-      (λ _ x. inr (inr (exports_swept rest x)))
-      (λ _ x. ⊎_elim (λ y. inl y) (λ z. inr (⊎_elim (λ y. inl y) (λ y. inr (exports_swept rest y)) z)) x)
+  exports_swept end x = x
+  exports_swept (link h cs rest) x = grind (arith, exports_swept rest)
 
   -- an expression exports nothing
   expression_exports : (c : Chain) → expression (first_kind c) ≡ true → Exports g (alone c) → ⊥
   expression_exports end x y = y
-  expression_exports (link h cs rest) x y = ⊎_elim
-      (λ z. both_ways (bears h) (expression_bears h x) z.0)
-      (λ w. ⊎_elim (λ z. both_ways (carries h) (expression_carries h x) z.0) (λ z. z) w) y
+  expression_exports (link h cs rest) x y = grind (arith, expression_bears h x, expression_carries h x)
 
   done_exports : (by : By) (p : Place) (h : Head) (found : Chain) (inner : Left) → Formed (inner_ways h) inner.chain → (Exports g inner.chain → Exports g found)
       → (v : Verdict) → Means by p h found inner.chain v → Exports g (done v h inner).chain → Exports g (link h found end)
-  done_exports by p h found inner k t stays m x = ⊎_elim (λ y. inl y) (λ z. inr (⊎_elim (λ y. inl (y.0, t y.1)) (λ y. absurd y) z)) x
-  done_exports by p h found inner k t sweeps m x = ⊎_elim (λ y. inl y) (λ z. inr (⊎_elim (λ y. inl (y.0, t (exports_swept inner.chain y.1))) (λ y. absurd y) z)) x
-  done_exports by p h found inner k t (empties ns) m x = absurd (⊎_elim (λ y. both_ways false refl y.0) (λ z. ⊎_elim (λ y. both_ways false refl y.0) (λ y. y) z) x)
+  done_exports by p h found inner k t stays m x = grind (arith, t)
+  done_exports by p h found inner k t sweeps m x = grind (arith, t, exports_swept inner.chain)
+  done_exports by p h found inner k t (empties ns) m x = grind arith
   done_exports by p h found inner k t (unlinks n) m x = absurd x
-  done_exports by p h found inner k t restates m x = absurd (⊎_elim (λ y. both_ways false refl y.0) (λ z. ⊎_elim (λ y. both_ways false refl y.0) (λ y. y) z) x)
+  done_exports by p h found inner k t restates m x = grind arith
   done_exports by p h found inner k t (yields n) m x = absurd (expression_exports (after inner.chain) (assigned_value (assigned h) inner.chain (rw m.kind at k)) x)
   done_exports by p h found inner k t unwraps m x =
       absurd (expression_exports (wrapped_object inner.chain) (subst (λ (j : ℕ). expression j ≡ true) (sym (wraps inner.chain m.wraps).object) refl) x)

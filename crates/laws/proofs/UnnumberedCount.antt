@@ -6,7 +6,7 @@
 --   bound_unnumbered, declaring_unnumbered, exported_unnumbered      the lists of records that bear names
 --   count_unnumbered                                          what is found in a chain
 use Rattle.std.specs.Prelude.{if◌then◌else◌}
-use Rattle.std.proofs.Common.{◌≡◌, ℕ, Bool, true, false, ◌&&◌, ◌||◌, eqb, List, [], ◌∷◌, ◌++◌, map, sym, refl, ap, ◌∙◌, ap₂}
+use Rattle.std.proofs.Common.{◌≡◌, ℕ, Bool, true, false, ◌&&◌, ◌||◌, eqb, List, [], ◌∷◌, ◌++◌, map, sym, refl, ap, ◌∙◌, ap₂, arith}
 use Rattle.std.proofs.lemmas.List.{map-append}
 use Rattle.std.proofs.lemmas.List.Folds.{fold-map}
 use Rattle.std.proofs.lemmas.Simd.{map-map}
@@ -51,10 +51,7 @@ keep_unnumbered false h hs = refl
 -- a record, what is under it if that is wanted, and the rest
 kept_unnumbered : (b n : Bool) (h : Head) (xs ys : List Head) {xs' ys' : List Head} → xs' ≡ unnumbered_heads xs → ys' ≡ unnumbered_heads ys
     → keep b (unnumbered_head h) ((if n then xs' else []) ++ ys') ≡ unnumbered_heads (keep b h ((if n then xs else []) ++ ys))
-kept_unnumbered b n h xs ys p q =
-    ap₂ (λ (us vs : List Head). keep b (unnumbered_head h) ((if n then us else []) ++ vs)) p q
-    ∙ (ap (λ (zs : List Head). keep b (unnumbered_head h) (zs ++ unnumbered_heads ys)) (sym (cond_ap unnumbered_heads n xs []))
-    ∙ (ap (keep b (unnumbered_head h)) (sym (map-append unnumbered_head (if n then xs else []) ys)) ∙ keep_unnumbered b h ((if n then xs else []) ++ ys)))
+kept_unnumbered b n h xs ys p q = grind (arith, map-append unnumbered_head xs ys)
 
 bound_unnumbered : (c : Chain) → bound (unnumbered c) ≡ unnumbered_heads (bound c)
 bound_unnumbered end = refl
