@@ -1,48 +1,29 @@
--- Tests, choices, lists and folds as several pages need them, and a case split on whether two names are one.
+-- Tests, choices, lists and folds as several pages need them.
 --
---   or_swap, cond_ap, if_both, elim_both            tests and choices
---   by_equal, by_same                               at one key or name, or at two that differ
---   in_append, in_left, in_right, in_if, if_in      members of one list after another, and of a list under a test
---   each_member                                     a fact on each kind of a list
---   Commutes, fold_swap                             folds with steps that commute, whichever of two parts comes first
+--   or_swap, elim_both              tests and choices
+--   in_append, in_left, in_right    members of one list after another
+--   only_if                         what is there only under a test
+--   each_member, all_member         a fact on each kind of a list
+--   Commutes, fold_swap             folds with steps that commute, whichever of two parts comes first
 use Rattle.std.specs.Prelude.{if◌then◌else◌}
-use Rattle.std.specs.List.{AllByRecursion, fold}
-use Rattle.std.proofs.Common.{◌≡◌, ℕ, Bool, true, false, cond, ◌||◌, ◌⊎◌, List, [], ◌∷◌, ◌++◌, sym, refl, ap, ◌∙◌, subst, ap₂, inl, inr, ⊎_elim, arith}
-use Rattle.std.proofs.lemmas.Bool.{cases_Bool, both_ways}
+use Rattle.std.specs.List.{AllByRecursion, list_all, fold}
+use Rattle.std.proofs.Common.{◌≡◌, ℕ, Bool, true, false, ◌||◌, ◌⊎◌, List, [], ◌∷◌, ◌++◌, sym, refl, ap, ◌∙◌, inr, arith}
 use Rattle.std.proofs.lemmas.List.Elements.{All-from_recursion, All-contains}
 use Rattle.std.proofs.lemmas.List.Folds.{fold_along}
+use Rattle.std.proofs.lemmas.List.Sums.{AllPass-from_list_all}
 use Rattle.std.proofs.lemmas.Map.Views.{Contains-from_any, exact_unsigned_eq}
-use Rattle.rules.specs.Tree.{Name}
 use Rattle.rules.specs.Kinds.{member}
-use Rattle.rules.specs.Names.{same}
 use Rattle.rules.specs.Law.{In}
-use Rattle.rules.proofs.SameNames.{same_eq, same_refl}
 
 -- TESTS AND CHOICES
 
 pub or_swap : (a b c : Bool) → (a || (b || c)) ≡ (b || (a || c))
 or_swap a b c = grind arith
 
-pub cond_ap : {A B : Type 0} (f : A → B) (b : Bool) (x y : A) → f (cond b x y) ≡ cond b (f x) (f y)
-cond_ap f b x y = grind arith
-
-pub if_both : {A : Type 0} (b : Bool) {b' : Bool} {x x' y y' : A} → b' ≡ b → x' ≡ x → y' ≡ y → cond b' x' y' ≡ cond b x y
-if_both b {x' = x'} {y' = y'} p q r = ap (λ (z : Bool). cond z x' y') p ∙ ap₂ (cond b) q r
-
 -- a fact on one of two, by a test that is taken apart
 pub elim_both : {A : Type 0} (P : A → Type 0) (b : Bool) (x y : A) → (b ≡ true → P x) → (b ≡ false → P y) → P (elim b [ true ↦ x | false ↦ y ])
 elim_both P true x y f g = f refl
 elim_both P false x y f g = g refl
-
--- at one key, or at two that differ
-pub by_equal : {K : Type 0} (eq : K → K → Bool) → ((a b : K) → eq a b ≡ true → a ≡ b) → ((a : K) → eq a a ≡ true)
-    → (a b : K) (P : K → Bool → Type 0) → P a true → (eq a b ≡ false → P b false) → P b (eq a b)
-by_equal {K} eq sound whole a b P s d =
-    elim (cases_Bool (eq a b)) [ inl t ↦ subst (λ (x : K). P x (eq a x)) (sound a b t) (subst (P a) (sym (whole a)) s) | inr f ↦ subst (P b) (sym f) (d f) ]
-
--- at one name, or at two that differ
-pub by_same : (a b : Name) (P : Name → Bool → Type 0) → P a true → (same a b ≡ false → P b false) → P b (same a b)
-by_same = by_equal same same_eq same_refl
 
 -- LISTS
 
@@ -58,18 +39,18 @@ pub in_right : {A : Type 0} (x : A) (xs ys : List A) → In x ys → In x (xs ++
 in_right x [] ys h = h
 in_right x (y ∷ xs) ys h = inr (in_right x xs ys h)
 
--- a member of a list that is there only under a test
-pub in_if : {A : Type 0} (x : A) (b : Bool) (xs : List A) → In x (if b then xs else []) → (b ≡ true) × In x xs
-in_if x true xs h = (refl, h)
-in_if x false xs h = absurd h
-
-pub if_in : {A : Type 0} (x : A) (b : Bool) (xs : List A) → b ≡ true → In x xs → In x (if b then xs else [])
-if_in x true xs e h = h
-if_in x false xs e h = absurd (both_ways false refl e)
+-- what is there only under a test
+pub only_if : {A : Type 0} (P : A → Type 0) (b : Bool) (x y : A) → (P y → ⊥) → P (if b then x else y) → (b ≡ true) × P x
+only_if P true x y out h = (refl, h)
+only_if P false x y out h = absurd (out h)
 
 -- a fact on each number of a list
 pub each_member : (P : ℕ → Type 0) (k : ℕ) (ks : List ℕ) → AllByRecursion P ks → member k ks ≡ true → P k
 each_member P k ks all g = All-contains P ks k (All-from_recursion P ks all) (Contains-from_any exact_unsigned_eq k ks g)
+
+-- a test of each
+pub all_member : (test : ℕ → Bool) (k : ℕ) (ks : List ℕ) → list_all test ks ≡ true → member k ks ≡ true → test k ≡ true
+all_member test k ks a m = All-contains (λ (j : ℕ). test j ≡ true) ks k (AllPass-from_list_all test ks a) (Contains-from_any exact_unsigned_eq k ks m)
 
 -- FOLDS
 

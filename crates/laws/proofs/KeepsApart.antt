@@ -5,8 +5,7 @@
 --   occ_in, in_occ, occ_once, once_apart      occurrences, `Numbers` and `Apart`
 --   treat_occ                        no number occurs more often in what is left
 --   keeps_apart, keeps_numbers       the theorems
-use Rattle.std.proofs.Common.{◌≡◌, ℕ, ◌+◌, ◌<◌, ◌≤◌, cond, eqb, refl, subst, inl, inr, ⊎_elim, arith}
-use Rattle.std.proofs.lemmas.Bool.{cases_eq, cases_lt, eq-eqb, ne_eqb}
+use Rattle.std.proofs.Common.{◌≡◌, ℕ, ◌+◌, ◌<◌, ◌≤◌, cond, eqb, refl, arith}
 use Rattle.std.proofs.lemmas.Bool.Decides.{nat_tests}
 use Rattle.rules.specs.Tree.{Chain}
 use Rattle.rules.specs.Tree.Chain.{end, link}
@@ -23,12 +22,6 @@ one x n = cond (eqb x n) 1 0
 abbrev pub occ : ℕ → Chain → ℕ
 occ x end = 0
 occ x (link h children rest) = one x h.number + occ x children + occ x rest
-
-one_same : (x n : ℕ) → x ≡ n → one x n ≡ 1
-one_same x n e = rw (eq-eqb x n e)
-
-one_other : (x n : ℕ) → (x ≡ n → ⊥) → one x n ≡ 0
-one_other x n e = rw (ne_eqb x n e)
 
 occ_in : (c : Chain) (x : ℕ) → 0 < occ x c → Numbers x c
 occ_in end x l = absurd (omega arith)
@@ -50,8 +43,8 @@ once_apart : (c : Chain) → ((x : ℕ) → occ x c ≤ 1) → Apart c
 once_apart end o = tt
 once_apart (link h children rest) o =
     let n = h.number in (
-      λ i. omega (arith, o n, one_same n n refl, in_occ children n i),
-      λ i. omega (arith, o n, one_same n n refl, in_occ rest n i),
+      λ i. grind (arith, nat_tests, o n, in_occ children n i),
+      λ i. grind (arith, nat_tests, o n, in_occ rest n i),
       λ x i j. omega (arith, o x, in_occ children x i, in_occ rest x j),
       once_apart children (λ x. omega (arith, o x)),
       once_apart rest (λ x. omega (arith, o x)),

@@ -7,13 +7,13 @@
 --   FirstKept, first_kept          the first one that is left was not to go
 --   values_formed, joined_formed   the values are expressions, and they join to one
 --   kept_valued, restated_formed   one that stays although its name can go has a value; what a Var becomes has its child
-use Rattle.std.proofs.Common.{◌≡◌, Bool, true, false, not, eqb, List, [], ◌∷◌, sym, refl, ◌∙◌, subst, ⊎_elim, arith}
-use mathlib.Core.Bool.{and-false, or-false}
-use Rattle.std.proofs.lemmas.Bool.{cond_both, both_ways, cases_Bool, and_parts, and_from, eq-eqb, eqb-true, not_from_false}
+use Rattle.std.proofs.Common.{◌≡◌, Bool, true, false, List, [], ◌∷◌, sym, refl, subst, arith}
+use mathlib.Core.Bool.{or-false}
+use Rattle.std.proofs.lemmas.Bool.{cond_both, both_ways, and_parts, eqb-true}
 use Rattle.std.proofs.lemmas.Bool.Decides.{nat_tests}
-use Rattle.rules.specs.Tree.{Head, Chain, ◌is◌, flagged, is_end, after, alone, append}
+use Rattle.rules.specs.Tree.{Head, Chain, flagged, is_end, after, alone, append}
 use Rattle.rules.specs.Tree.Chain.{end, link}
-use Rattle.rules.specs.Kinds.{var_declaration, for_statement, with_statement, declarator, plain_expression, expression, pattern, only}
+use Rattle.rules.specs.Kinds.{var_declaration, declarator, plain_expression, expression, pattern, only}
 use Rattle.rules.specs.Grammar.{Way}
 use Rattle.rules.specs.Grammar.Part.{one, maybe}
 use Rattle.rules.specs.Held.{Formed}

@@ -10,13 +10,11 @@ use Rattle.std.specs.Prelude.{if◌then◌else◌}
 use Rattle.std.specs.List.{list_all}
 use Rattle.std.proofs.Common.{◌≡◌, ℕ, Bool, true, false, cond, not, ◌&&◌, ◌||◌, eqb, List, [], ◌∷◌, ◌++◌, sym, refl, ◌∙◌, subst, ⊎_elim, arith}
 use Rattle.std.proofs.lemmas.Bool.{cond_both, and_parts, and_from, both_ways, or_cases}
-use Rattle.std.proofs.lemmas.List.Elements.{All-contains}
 use Rattle.std.proofs.lemmas.List.Folds.{list_all-append}
-use Rattle.std.proofs.lemmas.List.Sums.{AllPass-from_list_all}
-use Rattle.std.proofs.lemmas.Map.Views.{Contains-from_any, exact_unsigned_eq}
 use Rattle.rules.specs.Kinds.{specifier, empty_statement, expression_statement, var_declaration, declarator, identifier, literal, function_expression, class_expression, arrow, plain_expression, object, call_expression, delete_expression, assignment, member}
 use Rattle.rules.specs.Grammar.{Part, Way, go_on, step}
 use Rattle.rules.specs.Grammar.Part.{one, maybe, many}
+use Rattle.laws.proofs.Basics.{all_member}
 use Rattle.laws.proofs.KeepsWays.{Within, within_none, within_append}
 use Rattle.laws.proofs.KeepsWays.Within.{none, both, more}
 
@@ -71,9 +69,6 @@ fair_way ks way = keeps_all ks way && (spares_all way || a_list way)
 abbrev pub fair : List ℕ → List Way → Bool
 fair ks ways = list_all (fair_way ks) ways
 
-all_member : (test : ℕ → Bool) (ks : List ℕ) (k : ℕ) → list_all test ks ≡ true → member k ks ≡ true → test k ≡ true
-all_member test ks k a m = All-contains (λ (j : ℕ). test j ≡ true) ks k (AllPass-from_list_all test ks a) (Contains-from_any exact_unsigned_eq k ks m)
-
 -- a list of one sort has no part after it
 list_last : (part : Part) (way : Way) → a_list (part ∷ way) ≡ true → way ≡ []
 list_last (one sort) way e = absurd (both_ways false refl e)
@@ -117,7 +112,7 @@ cond_within false b way f = within_none (cond b (way ∷ []) [])
 
 module _ (ks : List ℕ) (k m : ℕ) (among : member k ks ≡ true) (stands : member m (stand_ins k) ≡ true) where
   sort_swap : (sort : ℕ → Bool) → list_all (keeps sort) ks ≡ true → sort k ≡ true → sort m ≡ true
-  sort_swap sort a e = let b = all_member (keeps sort) ks k a among in all_member sort (stand_ins k) m (grind arith) stands
+  sort_swap sort a e = let b = all_member (keeps sort) k ks a among in all_member sort m (stand_ins k) (grind arith) stands
 
   on_swap : (way : Way) → keeps_all ks way ≡ true → Within (go_on k way) (go_on m way)
   on_swap [] f = none
@@ -132,9 +127,9 @@ module _ (ks : List ℕ) (k m : ℕ) (among : member k ks ≡ true) (stands : me
 module _ (ks : List ℕ) (k : ℕ) (gone : member k unlinkable ≡ true) where
   on_none : (way : Way) → spares_all way ≡ true → go_on k way ≡ []
   on_none [] f = refl
-  on_none (one sort ∷ way) f = grind (arith, all_member (λ j. not (sort j)) unlinkable k)
-  on_none (maybe sort ∷ way) f = grind (arith, all_member (λ j. not (sort j)) unlinkable k, on_none way)
-  on_none (many sort ∷ way) f = grind (arith, all_member (λ j. not (sort j)) unlinkable k, on_none way)
+  on_none (one sort ∷ way) f = grind (arith, all_member (λ j. not (sort j)) k unlinkable)
+  on_none (maybe sort ∷ way) f = grind (arith, all_member (λ j. not (sort j)) k unlinkable, on_none way)
+  on_none (many sort ∷ way) f = grind (arith, all_member (λ j. not (sort j)) k unlinkable, on_none way)
 
   on_list : (way : Way) → a_list way ≡ true → Within (go_on k way) (way ∷ [])
   on_list [] e = absurd (both_ways false refl e)

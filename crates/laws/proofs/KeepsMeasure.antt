@@ -4,11 +4,10 @@
 --   Measure                                a weight for each record, and its sum over a chain
 --   sum_append .. sum_wrapped              the pieces that are moved
 --   done_sum, treated_sum, treat_sum       one record; a chain
-use Rattle.std.proofs.Common.{◌≡◌, ℕ, ◌+◌, ◌≤◌, Bool, true, false, ◌&&◌, ◌||◌, arith}
-use Rattle.std.proofs.lemmas.Bool.{cond_both}
-use Rattle.rules.specs.Tree.{Head, Chain, ◌is◌, is_end, below, after, alone, append}
+use Rattle.std.proofs.Common.{◌≡◌, ℕ, ◌+◌, ◌≤◌, Bool, true, false, arith}
+use Rattle.rules.specs.Tree.{Head, Chain, is_end, below, after, alone, append}
 use Rattle.rules.specs.Tree.Chain.{end, link}
-use Rattle.rules.specs.Kinds.{empty_statement, block, expression_statement, plain_expression}
+use Rattle.rules.specs.Kinds.{empty_statement, expression_statement, plain_expression}
 use Rattle.rules.specs.Removal.{By, Place, place_inside, entered, swept, wrapped_object, Verdict, verdict, become, values, joined, Left, done, treated, treat}
 use Rattle.rules.specs.Removal.Verdict.{stays, sweeps, empties, unlinks, restates, yields, unwraps}
 

@@ -16,7 +16,7 @@ use Rattle.rules.specs.Held.{Formed}
 use Rattle.rules.specs.Names.{same, among, names_of, binds, keep, Under, under_nothing, under, declares, declaring, declared}
 use Rattle.rules.specs.Tables.{some_row}
 use Rattle.rules.proofs.SameNames.{same_eq, same_laws}
-use Rattle.laws.proofs.Basics.{each_member}
+use Rattle.laws.proofs.Basics.{all_member}
 use Rattle.laws.proofs.TablesRows.{with_row, some_with_row}
 use Rattle.laws.proofs.TablesSizes.{Single, single_none, single_with_row, equal_sizes}
 use Rattle.laws.proofs.TablesRoom.{all_declared}
@@ -65,7 +65,7 @@ has_symbol : (h : Head) → words_fit h ≡ true → named h.kind ≡ true → e
 has_symbol h w q = grind (arith, nat_tests)
 
 declarations_named : (k : ℕ) → member k (specifier ∷ fn_declaration ∷ class_declaration ∷ []) ≡ true → named k ≡ true
-declarations_named k = each_member (λ (j : ℕ). named j ≡ true) k (specifier ∷ fn_declaration ∷ class_declaration ∷ []) (refl, (refl, (refl, tt)))
+declarations_named k = all_member named k (specifier ∷ fn_declaration ∷ class_declaration ∷ []) refl
 
 binders_named : (h : Head) → binds h ≡ true → named h.kind ≡ true
 binders_named h e = grind (arith, nat_tests)

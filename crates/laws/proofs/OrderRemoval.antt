@@ -8,14 +8,14 @@
 --   remains_unnumbered                record numbers apart
 --   root_treated                      what is left of a root that does not begin with 'use asm'
 use Rattle.std.specs.Prelude.{if◌then◌else◌}
-use Rattle.std.proofs.Common.{◌≡◌, Bool, true, false, not, ◌&&◌, ◌||◌, eqb, sym, refl, ap, ◌∙◌, subst₂, arith}
-use Rattle.rules.specs.Tree.{Head, Chain, ◌is◌, is_end, append, unnumbered}
+use Rattle.std.proofs.Common.{◌≡◌, Bool, true, false, not, ◌||◌, eqb, sym, refl, ap, ◌∙◌, subst₂, arith}
+use Rattle.rules.specs.Tree.{Head, Chain, is_end, append, unnumbered}
 use Rattle.rules.specs.Tree.Chain.{end, link}
-use Rattle.rules.specs.Kinds.{module_root, script_root, empty_statement, block, for_statement}
+use Rattle.rules.specs.Kinds.{module_root, script_root, for_statement}
 use Rattle.rules.specs.Removal.{By, Place, at_root, place_inside, asm, entered, swept, Left, unchanged, both, treated, treat}
 use Rattle.rules.specs.Law.{Shuffled}
 use Rattle.rules.specs.Law.Shuffled.{none, past, swap, again}
-use Rattle.laws.proofs.Basics.{or_swap, cond_ap}
+use Rattle.laws.proofs.Basics.{or_swap}
 use Rattle.laws.proofs.Verdicts.{entered_anywhere}
 use Rattle.laws.proofs.UnnumberedRemoval.{swept_unnumbered, treat_unnumbered}
 use Rattle.laws.proofs.OrderCount.{root_of, shuffled_same}

@@ -7,7 +7,7 @@
 --   reordered_twins          the two trees of the law
 use Rattle.std.specs.Prelude.{if◌then◌else◌}
 use Rattle.std.proofs.Common.{◌≡◌, ℕ, Bool, true, false, ◌||◌, eqb, List, [], sym, refl, ◌∙◌, subst, subst₂, inl, inr, arith}
-use Rattle.std.proofs.lemmas.Bool.{true≢false, false≢true, cases_Bool, or_cases, eqb-true}
+use Rattle.std.proofs.lemmas.Bool.{true≢false, false≢true, or_cases, eqb-true}
 use Rattle.std.proofs.lemmas.Bool.Decides.{nat_tests}
 use Rattle.rules.specs.Tree.{Head, Chain, below, unnumbered}
 use Rattle.rules.specs.Tree.Chain.{end, link}

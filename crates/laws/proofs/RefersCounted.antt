@@ -10,21 +10,13 @@ use Rattle.rules.specs.Kinds.{export_declaration, function}
 use Rattle.rules.specs.Names.{names_of, distinct, bound, declared_below, exported}
 use Rattle.rules.specs.Counting.{Event, unheld, Found, nothing, Around, reading, readings, marks, own, opens, leave, inside, count}
 use Rattle.rules.specs.Law.{In, Reference}
-use Rattle.laws.proofs.Basics.{in_append, in_left, in_right}
+use Rattle.laws.proofs.Basics.{in_append, in_left, in_right, only_if}
 use Rattle.laws.proofs.RefersExported.{in_exported, exported_in}
 use Rattle.laws.proofs.Refers.{Refers}
 
 -- what a record refers to does not hang on its children
 own_events : (a : Around) (h : Head) (cs : Chain) → (own a h cs).events ≡ (own a h end).events
 own_events a h cs = grind arith
-
--- an event that is there only under a test
-in_found : (e : Event) (b : Bool) (f : Found) → In e (if b then f else nothing).events → (b ≡ true) × In e f.events
-in_found e true f x = (refl, x)
-in_found e false f x = absurd x
-
-found_in : (e : Event) (b : Bool) (f : Found) → b ≡ true → In e f.events → In e (if b then f else nothing).events
-found_in e b f g x = rw g x
 
 in_readings : (e : Event) (a : Around) (hs : List Head) → In e (readings a hs).events → (g : Head) × In g hs × In e (reading a g).events
 in_readings e a [] x = absurd x
@@ -69,7 +61,7 @@ module _ (e : Event) (r : Reference e) where
       let onward = (count a rest).events in
       ⊎_elim
       (λ y.
-      let z = in_found e (h is export_declaration) (readings a (exported cs)) y in
+      let z = only_if (λ (f : Found). In e f.events) (h is export_declaration) (readings a (exported cs)) nothing (λ z. z) y in
       let g = in_readings e a (exported cs) z.1 in
       inl (inl (z.0, (g.0, in_exported g.0 cs g.1, g.2))))
       (λ y. ⊎_elim (λ z. inr (inl (count_refers cs (inside a h) (left_in (opens h) h cs inner z))))
@@ -92,8 +84,7 @@ refers_count e (link h cs rest) a x =
     let onward = (count a rest).events in
     ⊎_elim
     (λ y. ⊎_elim
-    (λ z. in_left e before (under ++ (mine ++ onward)) (found_in e (h is export_declaration) (readings a (exported cs)) z.0
-    (readings_in e a z.1.0 (exported cs) (exported_in z.1.0 cs z.1.1) z.1.2)))
+    (λ z. in_left e before (under ++ (mine ++ onward)) (rw z.0 (readings_in e a z.1.0 (exported cs) (exported_in z.1.0 cs z.1.1) z.1.2)))
     (λ z. in_right e before (under ++ (mine ++ onward)) (in_right e under (mine ++ onward) (in_left e mine onward (subst (λ (es : List Event). In e es) (sym (own_events a h cs)) z)))) y)
     (λ y. in_right e before (under ++ (mine ++ onward)) (⊎_elim
     (λ z. in_left e under (mine ++ onward) (in_left_of e (opens h) h cs inner (refers_count e cs (inside a h) z)))

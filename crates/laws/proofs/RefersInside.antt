@@ -2,7 +2,6 @@
 --
 --   OnPaths, inside_on      a name on one of the paths; below a record
 --   holder_inside           the theorem
-use Rattle.std.specs.Prelude.{if◌then◌else◌}
 use Rattle.std.proofs.Common.{◌≡◌, ℕ, Bool, true, false, ◌||◌, ◌⊎◌, List, [], ◌∷◌, sym, ap, subst, inl, inr, ⊎_elim, arith}
 use Rattle.std.proofs.lemmas.Bool.{cond_both}
 use Rattle.rules.specs.Tree.{Head, Chain, Name, ◌is◌, name_of}
@@ -10,7 +9,7 @@ use Rattle.rules.specs.Tree.Chain.{end, link}
 use Rattle.rules.specs.Kinds.{export_name, fn_declaration, class_declaration, identifier, call_expression, name_pattern, property_name}
 use Rattle.rules.specs.Held.{Numbers}
 use Rattle.rules.specs.Names.{among}
-use Rattle.rules.specs.Counting.{Event, holders, refer, Found, nothing, Role, Around, outermost, put, reference, reading, writing, named_here, own, opens, inside, events_of}
+use Rattle.rules.specs.Counting.{Event, holders, refer, Found, nothing, Role, Around, outermost, put, reference, reading, writing, named_here, own, inside, events_of}
 use Rattle.rules.specs.Counting.Role.{declared_here, written, read_and_written}
 use Rattle.rules.specs.Law.{In, Reference, Inside}
 use Rattle.laws.proofs.Basics.{in_append}

@@ -6,18 +6,17 @@
 --   bound_unnumbered, declaring_unnumbered, exported_unnumbered      the lists of records that bear names
 --   count_unnumbered                                          what is found in a chain
 use Rattle.std.specs.Prelude.{if◌then◌else◌}
-use Rattle.std.proofs.Common.{◌≡◌, ℕ, Bool, true, false, ◌&&◌, ◌||◌, eqb, List, [], ◌∷◌, ◌++◌, map, sym, refl, ap, ◌∙◌, ap₂, arith}
+use Rattle.std.proofs.Common.{◌≡◌, ℕ, Bool, true, false, ◌&&◌, ◌||◌, List, [], ◌∷◌, ◌++◌, map, sym, refl, ap, ◌∙◌, ap₂, arith}
 use Rattle.std.proofs.lemmas.List.{map-append}
 use Rattle.std.proofs.lemmas.List.Folds.{fold-map}
 use Rattle.std.proofs.lemmas.Simd.{map-map}
 use Rattle.rules.specs.Tree.{Head, Chain, Name, ◌is◌, name_of, unnumbered_head, unnumbered}
 use Rattle.rules.specs.Tree.Chain.{end, link}
-use Rattle.rules.specs.Kinds.{export_declaration, export_name, fn_declaration, class_declaration, var_declaration, declarator, function, identifier, arrow, call_expression, name_pattern, property_name, arguments_symbol}
-use Rattle.rules.specs.Names.{among, names_of, distinct, binds, nests, keep, bound, Under, under_nothing, under, declares, declaring, declared_below, exported}
-use Rattle.rules.specs.Counting.{Event, holders, refer, marked, Found, ◌followed_by◌, Role, Around, reference, reading, readings, marks, named_here, calls_eval, own, opens, leave, inside, count}
+use Rattle.rules.specs.Kinds.{export_declaration, export_name, fn_declaration, class_declaration, var_declaration, declarator, function, identifier, arrow, call_expression, name_pattern, property_name}
+use Rattle.rules.specs.Names.{names_of, distinct, binds, nests, keep, bound, Under, under_nothing, under, declares, declaring, declared_below, exported}
+use Rattle.rules.specs.Counting.{Event, marked, Found, ◌followed_by◌, Role, Around, reference, reading, readings, marks, named_here, calls_eval, own, opens, leave, inside, count}
 use Rattle.rules.specs.Counting.Role.{declared_here, written, read_and_written}
 use Rattle.rules.specs.Tables.{Counts}
-use Rattle.laws.proofs.Basics.{cond_ap}
 use Rattle.laws.proofs.TablesFilled.{entered, filled}
 
 -- records, their numbers apart
@@ -80,11 +79,7 @@ either_unnumbered true x y p q = p
 either_unnumbered false x y p q = q
 
 reference_unnumbered : (a : Around) (w : Bool) (h : Head) → unnumbered_found (reference a w h) ≡ reference a w (unnumbered_head h)
-reference_unnumbered a w h = λ i. record {
-  events = cond_ap unnumbered_events (among (name_of h) a.cur_fn || among (name_of h) a.cur_class) [] (refer (name_of h) w (holders a.ast_paths) h.number ∷ []) i;
-  found_arguments = eqb h.symbol arguments_symbol;
-  found_direct_eval = false;
-}
+reference_unnumbered a w h = grind arith
 
 readings_unnumbered : (a : Around) (hs : List Head) → unnumbered_found (readings a hs) ≡ readings a (unnumbered_heads hs)
 readings_unnumbered a [] = refl

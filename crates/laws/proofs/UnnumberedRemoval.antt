@@ -4,15 +4,13 @@
 --   blind                      a lawful judge does not see record numbers
 --   .. _unnumbered             what is read of a chain; each rule's test; what is done
 --   treat_unnumbered           what is left of a chain
-use Rattle.std.specs.Prelude.{if◌then◌else◌}
-use Rattle.std.proofs.Common.{◌≡◌, ℕ, Bool, true, false, not, ◌&&◌, ◌||◌, sym, refl, ap, ◌∙◌, ap₂, arith}
-use Rattle.rules.specs.Tree.{Head, Chain, Name, ◌is◌, flagged, is_end, below, after, first_is, first_flagged, first_symbol, first_name, alone, append, unnumbered_head, unnumbered}
+use Rattle.std.proofs.Common.{◌≡◌, ℕ, Bool, true, false, not, ◌&&◌, ◌||◌, refl, ap, ◌∙◌, ap₂, arith}
+use Rattle.rules.specs.Tree.{Head, Chain, ◌is◌, flagged, is_end, below, after, first_is, first_flagged, first_symbol, first_name, alone, append, unnumbered_head, unnumbered}
 use Rattle.rules.specs.Tree.Chain.{end, link}
-use Rattle.rules.specs.Kinds.{empty_statement, block, expression_statement, var_declaration, declarator, method, property, static_block, identifier, plain_expression, call_expression, assignment, name_pattern, expression}
+use Rattle.rules.specs.Kinds.{expression_statement, declarator, identifier, name_pattern}
 use Rattle.rules.specs.Judges.{Lawful}
-use Rattle.rules.specs.Removal.{By, Place, place_inside, can_drop_assignment_to, first_acts, entered, swept, keeps_class, name_goes, all_go, only_identifiers, wraps_object, wrapped_object, fn_goes, class_goes, declarator_goes, specifier_goes, import_emptied, var_emptied, var_restates, assignment_yields, call_unwraps, Verdict, verdict, become, values, joined, Left, both, done, treated, treat}
+use Rattle.rules.specs.Removal.{By, Place, place_inside, first_acts, entered, swept, keeps_class, name_goes, all_go, only_identifiers, wraps_object, wrapped_object, class_goes, declarator_goes, import_emptied, var_restates, assignment_yields, Verdict, verdict, become, values, joined, Left, both, done, treated, treat}
 use Rattle.rules.specs.Removal.Verdict.{stays, sweeps, empties, unlinks, restates, yields, unwraps}
-use Rattle.laws.proofs.Basics.{cond_ap, if_both}
 
 twice_unnumbered : (c : Chain) → unnumbered (unnumbered c) ≡ unnumbered c
 twice_unnumbered end = refl
@@ -148,8 +146,14 @@ module _ (by : By) (sees_no_number : (c : Chain) → by.config.acts (unnumbered 
   verdict_unnumbered : (p : Place) (h : Head) (found c : Chain) → verdict by p (unnumbered_head h) (unnumbered found) (unnumbered c) ≡ verdict by p h found c
   verdict_unnumbered p h found c =
       cc (
-        class_goes_unnumbered p h c, declarator_goes_unnumbered p h c, import_emptied_unnumbered h found c, var_restates_unnumbered p h c,
-        assignment_yields_unnumbered p h c, wraps_object_unnumbered c, is_end_unnumbered c, first_name_unnumbered c,
+        class_goes_unnumbered p h c,
+        declarator_goes_unnumbered p h c,
+        import_emptied_unnumbered h found c,
+        var_restates_unnumbered p h c,
+        assignment_yields_unnumbered p h c,
+        wraps_object_unnumbered c,
+        is_end_unnumbered c,
+        first_name_unnumbered c,
       )
 
   treated_unnumbered : (into : Bool) (p : Place) (h : Head) (found : Chain) (inner : Left) → treated into by p (unnumbered_head h) (unnumbered found) (unnumbered_left inner) ≡ unnumbered_left (treated into by p h found inner)
