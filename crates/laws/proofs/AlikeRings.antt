@@ -5,19 +5,20 @@
 --   closed_alike, discount_alike      closed rings; a discounted row
 --   rows_alike                        a name's row after the rings are discounted
 use Rattle.std.specs.Prelude.{if◌then◌else◌}
-use Rattle.std.proofs.Common.{◌≡◌, Bool, true, false, not, ◌&&◌, List, [], ◌∷◌, sym, ap, ◌∙◌, subst, ap₂, inl, inr}
+use Rattle.std.proofs.Common.{◌≡◌, Bool, true, false, not, ◌&&◌, List, [], ◌∷◌, sym, ap, ◌∙◌, ap₂, arith}
 use mathlib.Core.Path.{fun_ext}
-use Rattle.std.proofs.lemmas.Bool.{false≢true, and_from, or_cases, or_left, or_right, not-true, not_from_false}
+use Rattle.std.proofs.lemmas.Bool.{false≢true}
+use Rattle.std.proofs.lemmas.List.Folds.{Any-from_list_any, list_any-from_Any}
+use Rattle.std.proofs.lemmas.Map.Views.{Contains-from_any, list_any-from_Contains}
 use Rattle.rules.specs.Tree.{Name}
 use Rattle.rules.specs.Names.{same, among}
 use Rattle.rules.specs.Tables.{NameRow, EdgeRow, Counts, fresh, look}
 use Rattle.rules.specs.Rings.{Edge, Leads, component, has_other, closed, minus, less, discount_row, discount}
 use Rattle.rules.specs.Rings.Leads.{here, onward}
-use Rattle.rules.proofs.SameNames.{same_eq, same_refl}
+use Rattle.rules.proofs.SameNames.{same_eq, same_refl, same_laws}
 use Rattle.rules.proofs.Leading.{component_told}
-use Rattle.laws.proofs.Basics.{bool_eq}
 use Rattle.laws.proofs.TablesFilled.{some_entry}
-use Rattle.laws.proofs.TablesEdges.{edge_eq, some_edge, weights}
+use Rattle.laws.proofs.TablesEdges.{some_edge, weights}
 use Rattle.laws.proofs.RingsDiscount.{look_discount}
 use Rattle.laws.proofs.AlikeTables.{Alike}
 
@@ -27,13 +28,11 @@ is a b x y = same a x && same b y
 
 edge_found : (es : List EdgeRow) (a b : Name) → Edge es a b → some_edge (is a b) es ≡ true
 edge_found [] a b h = absurd h
-edge_found (e ∷ es) a b (inl p) = or_left (is a b e.from e.to) (some_edge (is a b) es)
-    (and_from (same a e.from) (same b e.to) (subst (λ (x : Name). same a x ≡ true) p.0 (same_refl a)) (subst (λ (x : Name). same b x ≡ true) p.1 (same_refl b)))
-edge_found (e ∷ es) a b (inr p) = or_right (is a b e.from e.to) (some_edge (is a b) es) (edge_found es a b p)
+edge_found (e ∷ es) a b h = grind (arith, edge_found es a b, same_refl a, same_refl b)
 
 found_edge : (es : List EdgeRow) (a b : Name) → some_edge (is a b) es ≡ true → Edge es a b
 found_edge [] a b h = absurd (false≢true h)
-found_edge (e ∷ es) a b h = elim (or_cases (is a b e.from e.to) (some_edge (is a b) es) h) [ inl q ↦ inl (edge_eq a b e q) | inr q ↦ inr (found_edge es a b q) ]
+found_edge (e ∷ es) a b h = grind (arith, found_edge es a b, same_eq a e.from, same_eq b e.to)
 
 leads_more : (es fs : List EdgeRow) → ((a b : Name) → Edge es a b → Edge fs a b) → (a : Name) {b : Name} → Leads es a b → Leads fs a b
 leads_more es fs h a here = here
@@ -46,28 +45,17 @@ component_more : (es fs : List EdgeRow) → ((p : Name → Name → Bool) → so
 component_more es fs h a b q = let l = (component_told es a b).0 q in (component_told fs a b).1 (leads_alike es fs h a b l.0, leads_alike es fs h b a l.1)
 
 component_alike : (es fs : List EdgeRow) → ((p : Name → Name → Bool) → some_edge p es ≡ some_edge p fs) → (a b : Name) → among b (component es a) ≡ among b (component fs a)
-component_alike es fs h a b = bool_eq (among b (component es a)) (among b (component fs a)) (component_more es fs h a b) (component_more fs es (λ p. sym (h p)) a b)
+component_alike es fs h a b = grind (arith, component_more es fs h a b, component_more fs es (λ p. sym (h p)) a b)
 
 -- another name than n
-other_from : (n m : Name) (ms : List Name) → among m ms ≡ true → same n m ≡ false → has_other n ms ≡ true
-other_from n m [] h q = absurd (false≢true h)
-other_from n m (x ∷ ms) h q = elim (or_cases (same m x) (among m ms) h) [
-  | inl e ↦ or_left (not (same n x)) (has_other n ms) (not_from_false (same n x) (subst (λ (y : Name). same n y ≡ false) (same_eq m x e) q))
-  | inr e ↦ or_right (not (same n x)) (has_other n ms) (other_from n m ms e q)
-]
-
-other_of : (n : Name) (ms : List Name) → has_other n ms ≡ true → (m : Name) × (among m ms ≡ true) × (same n m ≡ false)
-other_of n [] h = absurd (false≢true h)
-other_of n (x ∷ ms) h = elim (or_cases (not (same n x)) (has_other n ms) h) [
-  | inl e ↦ (x, or_left (same x x) (among x ms) (same_refl x), not-true (same n x) e)
-  | inr e ↦ let o = other_of n ms e in (o.0, or_right (same o.0 x) (among o.0 ms) o.1, o.2)
-]
-
 other_more : (n : Name) (xs ys : List Name) → ((m : Name) → among m xs ≡ among m ys) → has_other n xs ≡ true → has_other n ys ≡ true
-other_more n xs ys h q = let o = other_of n xs q in other_from n o.0 ys (sym (h o.0) ∙ o.1) o.2
+other_more n xs ys h q =
+    let a = Any-from_list_any (λ (m : Name). not (same n m)) xs q in
+    let c = Contains-from_any same_eq a.1 ys (sym (h a.1) ∙ list_any-from_Contains same_laws a.1 xs (a.0, a.2, a.3)) in
+    list_any-from_Any (λ (m : Name). not (same n m)) ys (c.0, a.1, c.1, c.2, a.4)
 
 other_alike : (n : Name) (xs ys : List Name) → ((m : Name) → among m xs ≡ among m ys) → has_other n xs ≡ has_other n ys
-other_alike n xs ys h = bool_eq (has_other n xs) (has_other n ys) (other_more n xs ys h) (other_more n ys xs (λ m. sym (h m)))
+other_alike n xs ys h = grind (arith, other_more n xs ys h, other_more n ys xs (λ m. sym (h m)))
 
 -- a name shares n's ring
 abbrev in_ring : Counts → Name → Name → Bool

@@ -4,11 +4,13 @@
 --   Alike           tables that tell the same
 --   Exchanged       the same events, in whatever order
 --   alike           exchanged events fill tables alike
-use Rattle.std.proofs.Common.{◌≡◌, Bool, List, [], ◌∷◌, sym, refl, ap, ◌∙◌}
+use Rattle.std.proofs.Common.{◌≡◌, Bool, List, sym, refl, ap, ◌∙◌}
+use Rattle.std.specs.List.{fold}
+use Rattle.std.proofs.lemmas.List.Folds.{fold_along}
 use Rattle.rules.specs.Tree.{Name}
 use Rattle.rules.specs.Counting.{Event}
 use Rattle.rules.specs.Tables.{Counts, look}
-use Rattle.laws.proofs.Basics.{fold, Commutes}
+use Rattle.laws.proofs.Basics.{Commutes}
 use Rattle.laws.proofs.TablesFilled.{entered, filled, seen, look_entered, seen_commutes, some_name, named, some_name_entered, named_commutes, some_entry, entries, some_entry_entered, entries_commute}
 use Rattle.laws.proofs.TablesEdges.{some_edge, edged, some_edge_entered, edged_commutes, weights, weighed, weights_entered, weighed_commutes}
 
@@ -22,13 +24,13 @@ pub record Alike (c d : Counts) : Type 0 where
 
 -- the same events in whatever order: no fold whose steps commute tells them apart
 abbrev pub Exchanged : List Event → List Event → Type 1
-Exchanged xs ys = (R : Type 0) (f : Event → R → R) → Commutes f → (r : R) → fold f xs r ≡ fold f ys r
+Exchanged xs ys = (R : Type 0) (f : R → Event → R) → Commutes f → (r : R) → fold f r xs ≡ fold f r ys
 
-observed : {R : Type 0} (see : Counts → R) (f : Event → R → R) → ((e : Event) (c : Counts) → see (entered e c) ≡ f e (see c)) → (es : List Event) (c : Counts) → see (filled es c) ≡ fold f es (see c)
-observed see f h [] c = refl
-observed see f h (e ∷ es) c = observed see f h es (entered e c) ∙ ap (fold f es) (h e c)
+observed : {R : Type 0} (see : Counts → R) (f : R → Event → R) → ((e : Event) (c : Counts) → see (entered e c) ≡ f (see c) e) → (es : List Event) (c : Counts) → see (filled es c) ≡ fold f (see c) es
+observed {R} see f h es c =
+    fold_along (λ (d : Counts) (e : Event). entered e d) f (λ (d : Counts) (r : R). see d ≡ r) (λ d r e q. h e d ∙ ap (λ (z : R). f z e) q) c (see c) es refl
 
-agreed : {R : Type 0} (see : Counts → R) (f : Event → R → R) → ((e : Event) (c : Counts) → see (entered e c) ≡ f e (see c)) → Commutes f → (xs ys : List Event) → Exchanged xs ys → (c : Counts) → see (filled xs c) ≡ see (filled ys c)
+agreed : {R : Type 0} (see : Counts → R) (f : R → Event → R) → ((e : Event) (c : Counts) → see (entered e c) ≡ f (see c) e) → Commutes f → (xs ys : List Event) → Exchanged xs ys → (c : Counts) → see (filled xs c) ≡ see (filled ys c)
 agreed {R} see f h k xs ys s c = observed see f h xs c ∙ (s R f k (see c) ∙ sym (observed see f h ys c))
 
 pub alike : (xs ys : List Event) → Exchanged xs ys → (c : Counts) → Alike (filled xs c) (filled ys c)

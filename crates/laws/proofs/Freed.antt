@@ -5,19 +5,19 @@
 --   HeldInRing, unused_within, unread_within      the references to a free name
 --   taken_unused, gave_unread                     the names taken and given
 use Rattle.std.specs.Prelude.{if◌then◌else◌}
-use Rattle.std.proofs.Common.{◌≡◌, ◌≤◌, Bool, true, false, not, ◌&&◌, ◌||◌, eqb, List, [], ◌∷◌, ◌++◌, sym, refl, ◌∙◌, subst, ⊎_elim, arith}
-use Rattle.std.proofs.lemmas.Bool.{and_parts, both_ways, or_cases, or_left, or_right, eqb-true, cases_Bool, not-true}
-use Rattle.rules.specs.Tree.{Head, Chain, Name, flagged, is_end, first_is, first_name}
+use Rattle.std.proofs.Common.{◌≡◌, ◌≤◌, Bool, true, false, List, [], ◌∷◌, ◌++◌, sym, refl, ◌∙◌, subst, ⊎_elim, arith}
+use Rattle.std.proofs.lemmas.Bool.{or_left, or_right, false_from_ne_true, cases_Bool}
+use Rattle.std.proofs.lemmas.Bool.Decides.{nat_tests}
+use Rattle.rules.specs.Tree.{Head, Chain, Name, flagged, is_end, first_name}
 use Rattle.rules.specs.Tree.Chain.{end, link}
-use Rattle.rules.specs.Kinds.{name_pattern}
 use Rattle.rules.specs.Names.{among}
 use Rattle.rules.specs.Counting.{Event, unheld}
 use Rattle.rules.specs.Tables.{NameRow, Counts, no_rows, look}
 use Rattle.rules.specs.Rings.{component, closed, discount}
-use Rattle.rules.specs.Removal.{Config, By, Place, place_inside, unused, never_read, can_drop_binding, entered, name_goes, all_go, Verdict, verdict, treat, declarator_names, takes, gives, taken, gave}
+use Rattle.rules.specs.Removal.{Config, By, Place, place_inside, unused, never_read, entered, all_go, Verdict, verdict, treat, declarator_names, takes, gives, taken, gave}
 use Rattle.rules.specs.Removal.Verdict.{stays, sweeps, empties, unlinks, restates, yields, unwraps}
 use Rattle.rules.specs.Law.{In, Reference}
-use Rattle.laws.proofs.Basics.{in_append, in_if}
+use Rattle.laws.proofs.Basics.{in_append, only_if}
 use Rattle.laws.proofs.Verdicts.{Unused, Means, can_unused, means}
 use Rattle.laws.proofs.TablesFilled.{filled}
 use Rattle.laws.proofs.TablesTold.{event_row, event_edge}
@@ -27,13 +27,10 @@ use Rattle.laws.proofs.RingsClosed.{closed_edge, closed_entry}
 -- ROWS
 
 unused_zero : (r : NameRow) → unused r ≡ true → r.counted ≡ true → (r.usage ≡ 0) × (r.assign ≡ 0)
-unused_zero r g c = ⊎_elim
-    (λ x. absurd (both_ways r.counted (not-true r.counted x) c))
-    (λ x. let p = and_parts (eqb r.usage 0) (eqb r.assign 0) x in (eqb-true r.usage 0 p.0, eqb-true r.assign 0 p.1))
-    (or_cases (not r.counted) (eqb r.usage 0 && eqb r.assign 0) g)
+unused_zero r g c = grind (arith, nat_tests)
 
 unread_zero : (k : Config) (r : NameRow) → never_read k r ≡ true → r.usage ≡ 0
-unread_zero k r g = eqb-true r.usage 0 (and_parts (eqb r.usage 0) (k.top_level || not r.entry) (and_parts r.counted _ g).1).0
+unread_zero k r g = grind (arith, nat_tests)
 
 -- the references to a name that is free: it stands in a closed ring, and its references have holders, all of that ring
 pub record HeldInRing (c : Counts) (e : Event) : Type 0 where
@@ -49,9 +46,8 @@ module _ (es : List Event) (e : Event) (r : Reference e) (x : In e es) where
   closed_within : closed c e.name ≡ true → HeldInRing c e
   closed_within g = record {
     ring = g;
-    held = ⊎_elim
-        (λ u. absurd (closed_entry c e.name g (event_row (λ (s : NameRow). s.entry ≡ true) (λ v s y. or_left s.entry v.entry y) e (λ s. or_right s.entry e.entry (r ∙ u)) es no_rows x)))
-        (λ u. u) (cases_Bool (unheld e.holders));
+    held = false_from_ne_true (unheld e.holders)
+        (λ u. closed_entry c e.name g (event_row (λ (s : NameRow). s.entry ≡ true) (λ v s y. or_left s.entry v.entry y) e (λ s. or_right s.entry e.entry (r ∙ u)) es no_rows x));
     shares = λ m h. closed_edge c m e.name g (λ p y. event_edge p e m h y es no_rows x);
   }
 
@@ -82,14 +78,11 @@ module _ (es : List Event) (e : Event) (r : Reference e) (x : In e es) where
 
 in_unused : (by : By) (n : Name) (ns : List Name) → Unused by ns → In n ns → unused (by.row n) ≡ true
 in_unused by n [] u x = absurd x
-in_unused by n (m ∷ ns) u x = ⊎_elim (λ y. subst (λ (k : Name). unused (by.row k) ≡ true) (sym y) u.0) (λ y. in_unused by n ns u.1 y) x
+in_unused by n (m ∷ ns) u x = grind (arith, in_unused by n ns)
 
 all_unused : (by : By) (p : Place) (v : Bool) (c : Chain) → all_go by p v c ≡ true → Unused by (declarator_names c)
 all_unused by p v end g = tt
-all_unused by p v (link d parts rest) g =
-    let a = and_parts (name_goes by p v parts) (all_go by p v rest) g in
-    let b = and_parts (first_is name_pattern parts) (can_drop_binding by p v (first_name parts)) a.0 in
-    (can_unused by p v (first_name parts) b.1, all_unused by p v rest a.1)
+all_unused by p v (link d parts rest) g = (can_unused by p v (first_name parts) (grind arith), all_unused by p v rest (grind arith))
 
 takes_unused : (by : By) (p : Place) (h : Head) (found children : Chain) (n : Name) (v : Verdict) → Means by p h found children v → In n (takes v children) → unused (by.row n) ≡ true
 takes_unused by p h found children n stays m x = absurd x
@@ -109,26 +102,29 @@ gives_unread by p h found children n restates m x = absurd x
 gives_unread by p h found children n (yields k) m x = ⊎_elim (λ y. subst (λ (j : Name). never_read by.config (by.row j) ≡ true) (sym y) m.free) (λ y. absurd y) x
 gives_unread by p h found children n unwraps m x = absurd x
 
-pub taken_unused : (by : By) (n : Name) (c : Chain) (p : Place) → In n (taken by p c) → unused (by.row n) ≡ true
-taken_unused by n end p x = absurd x
-taken_unused by n (link h cs rest) p x =
+-- what holds of each name that a verdict loses holds of each that a removal loses
+lost_names : (by : By) (n : Name) (P : Type 0) (lost : Place → Chain → List Name) (mine : Verdict → Chain → List Name) → ((p : Place) → In n (lost p end) → ⊥)
+    → ((p : Place) (h : Head) (cs rest : Chain) → let bs = (treat by (place_inside p h) cs).chain in
+    lost p (link h cs rest) ≡ (if entered p h cs (is_end rest) then mine (verdict by p h cs bs) bs ++ lost (place_inside p h) cs else []) ++ lost p rest)
+    → ((p : Place) (h : Head) (found children : Chain) (v : Verdict) → Means by p h found children v → In n (mine v children) → P)
+    → (c : Chain) (p : Place) → In n (lost p c) → P
+lost_names by n P lost mine none split each end p x = absurd (none p x)
+lost_names by n P lost mine none split each (link h cs rest) p x =
     let bs = (treat by (place_inside p h) cs).chain in
-    let mine = takes (verdict by p h cs bs) bs in
-    let under = taken by (place_inside p h) cs in
+    let v = verdict by p h cs bs in
+    let under = lost (place_inside p h) cs in
+    let here = if entered p h cs (is_end rest) then mine v bs ++ under else [] in
     ⊎_elim
-    (λ y. ⊎_elim (takes_unused by p h cs bs n (verdict by p h cs bs) (means by p h cs bs)) (taken_unused by n cs (place_inside p h))
-    (in_append n mine under (in_if n (entered p h cs (is_end rest)) (mine ++ under) y).1))
-    (taken_unused by n rest p)
-    (in_append n (if entered p h cs (is_end rest) then mine ++ under else []) (taken by p rest) x)
+    (λ y. ⊎_elim (each p h cs bs v (means by p h cs bs)) (lost_names by n P lost mine none split each cs (place_inside p h))
+    (in_append n (mine v bs) under (only_if (In n) (entered p h cs (is_end rest)) (mine v bs ++ under) [] (λ z. z) y).1))
+    (lost_names by n P lost mine none split each rest p)
+    (in_append n here (lost p rest) (subst (In n) (split p h cs rest) x))
+
+pub taken_unused : (by : By) (n : Name) (c : Chain) (p : Place) → In n (taken by p c) → unused (by.row n) ≡ true
+taken_unused by n =
+    lost_names by n (unused (by.row n) ≡ true) (taken by) takes (λ p x. x) (λ p h cs rest. refl) (λ p h found children v m. takes_unused by p h found children n v m)
 
 pub gave_unread : (by : By) (n : Name) (c : Chain) (p : Place) → In n (gave by p c) → never_read by.config (by.row n) ≡ true
-gave_unread by n end p x = absurd x
-gave_unread by n (link h cs rest) p x =
-    let bs = (treat by (place_inside p h) cs).chain in
-    let mine = gives (verdict by p h cs bs) in
-    let under = gave by (place_inside p h) cs in
-    ⊎_elim
-    (λ y. ⊎_elim (gives_unread by p h cs bs n (verdict by p h cs bs) (means by p h cs bs)) (gave_unread by n cs (place_inside p h))
-    (in_append n mine under (in_if n (entered p h cs (is_end rest)) (mine ++ under) y).1))
-    (gave_unread by n rest p)
-    (in_append n (if entered p h cs (is_end rest) then mine ++ under else []) (gave by p rest) x)
+gave_unread by n =
+    lost_names by n (never_read by.config (by.row n) ≡ true) (gave by) (λ v cs. gives v) (λ p x. x) (λ p h cs rest. refl)
+    (λ p h found children v m. gives_unread by p h found children n v m)

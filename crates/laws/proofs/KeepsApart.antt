@@ -5,8 +5,8 @@
 --   occ_in, in_occ, occ_once, once_apart      occurrences, `Numbers` and `Apart`
 --   treat_occ                        no number occurs more often in what is left
 --   keeps_apart, keeps_numbers       the theorems
-use Rattle.std.proofs.Common.{◌≡◌, ℕ, ◌+◌, ◌<◌, ◌≤◌, cond, eqb, refl, subst, inl, inr, ⊎_elim, arith}
-use Rattle.std.proofs.lemmas.Bool.{cases_eq, cases_lt, eq-eqb, ne_eqb}
+use Rattle.std.proofs.Common.{◌≡◌, ℕ, ◌+◌, ◌<◌, ◌≤◌, cond, eqb, refl, arith}
+use Rattle.std.proofs.lemmas.Bool.Decides.{nat_tests}
 use Rattle.rules.specs.Tree.{Chain}
 use Rattle.rules.specs.Tree.Chain.{end, link}
 use Rattle.rules.specs.Held.{Numbers, Apart}
@@ -23,57 +23,28 @@ abbrev pub occ : ℕ → Chain → ℕ
 occ x end = 0
 occ x (link h children rest) = one x h.number + occ x children + occ x rest
 
-one_same : (x n : ℕ) → x ≡ n → one x n ≡ 1
-one_same x n e = rw (eq-eqb x n e)
-
-one_other : (x n : ℕ) → (x ≡ n → ⊥) → one x n ≡ 0
-one_other x n e = rw (ne_eqb x n e)
-
 occ_in : (c : Chain) (x : ℕ) → 0 < occ x c → Numbers x c
 occ_in end x l = absurd (omega arith)
-occ_in (link h children rest) x l =
-    ⊎_elim (λ (e : x ≡ h.number). inl e)
-    (λ (e : x ≡ h.number → ⊥).
-    ⊎_elim (λ (p : 0 < occ x children). inr (inl (occ_in children x p)))
-    (λ (q : occ x children ≤ 0). inr (inr (occ_in rest x (omega (arith, one_other x h.number e)))))
-    (cases_lt 0 (occ x children)))
-    (cases_eq x h.number)
+occ_in (link h children rest) x l = grind (arith, nat_tests, occ_in children x, occ_in rest x)
 
 in_occ : (c : Chain) (x : ℕ) → Numbers x c → 0 < occ x c
 in_occ end x i = absurd i
-in_occ (link h children rest) x (inl e) = omega (arith, one_same x h.number e)
-in_occ (link h children rest) x (inr (inl i)) = omega (arith, in_occ children x i)
-in_occ (link h children rest) x (inr (inr i)) = omega (arith, in_occ rest x i)
+in_occ (link h children rest) x i = grind (arith, nat_tests, in_occ children x, in_occ rest x)
 
 occ_none : (c : Chain) (x : ℕ) → (Numbers x c → ⊥) → occ x c ≡ 0
-occ_none c x out =
-    ⊎_elim (λ (p : 0 < occ x c). absurd (out (occ_in c x p))) (λ (q : occ x c ≤ 0). omega arith) (cases_lt 0 (occ x c))
+occ_none c x out = grind (arith, occ_in c x)
 
 occ_once : (c : Chain) (x : ℕ) → Apart c → occ x c ≤ 1
 occ_once end x a = omega arith
 occ_once (link h children rest) x a =
-    let n = h.number in
-    ⊎_elim
-    (λ (e : x ≡ n).
-    omega (
-      arith,
-      one_same x n e,
-      occ_none children x (λ i. a.0 (subst (λ (y : ℕ). Numbers y children) e i)),
-      occ_none rest x (λ i. a.1 (subst (λ (y : ℕ). Numbers y rest) e i)),
-    ))
-    (λ (e : x ≡ n → ⊥).
-    ⊎_elim
-    (λ (p : 0 < occ x children). omega (arith, one_other x n e, occ_once children x a.3, occ_none rest x (a.2 x (occ_in children x p))))
-    (λ (q : occ x children ≤ 0). omega (arith, one_other x n e, occ_once rest x a.4))
-    (cases_lt 0 (occ x children)))
-    (cases_eq x n)
+    grind (arith, nat_tests, occ_in children h.number, occ_in rest h.number, occ_in children x, occ_in rest x, a.0, a.1, a.2 x, occ_once children x a.3, occ_once rest x a.4)
 
 once_apart : (c : Chain) → ((x : ℕ) → occ x c ≤ 1) → Apart c
 once_apart end o = tt
 once_apart (link h children rest) o =
     let n = h.number in (
-      λ i. omega (arith, o n, one_same n n refl, in_occ children n i),
-      λ i. omega (arith, o n, one_same n n refl, in_occ rest n i),
+      λ i. grind (arith, nat_tests, o n, in_occ children n i),
+      λ i. grind (arith, nat_tests, o n, in_occ rest n i),
       λ x i j. omega (arith, o x, in_occ children x i, in_occ rest x j),
       once_apart children (λ x. omega (arith, o x)),
       once_apart rest (λ x. omega (arith, o x)),

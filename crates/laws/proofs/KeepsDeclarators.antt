@@ -7,12 +7,13 @@
 --   FirstKept, first_kept          the first one that is left was not to go
 --   values_formed, joined_formed   the values are expressions, and they join to one
 --   kept_valued, restated_formed   one that stays although its name can go has a value; what a Var becomes has its child
-use Rattle.std.proofs.Common.{◌≡◌, Bool, true, false, not, eqb, List, [], ◌∷◌, sym, refl, ◌∙◌, subst, ⊎_elim, arith}
-use mathlib.Core.Bool.{and-false, or-false}
-use Rattle.std.proofs.lemmas.Bool.{cond_both, both_ways, cases_Bool, and_parts, and_from, eq-eqb, eqb-true, not_from_false}
-use Rattle.rules.specs.Tree.{Head, Chain, ◌is◌, flagged, is_end, after, alone, append}
+use Rattle.std.proofs.Common.{◌≡◌, Bool, true, false, List, [], ◌∷◌, sym, refl, subst, arith}
+use mathlib.Core.Bool.{or-false}
+use Rattle.std.proofs.lemmas.Bool.{cond_both, both_ways, and_parts, eqb-true}
+use Rattle.std.proofs.lemmas.Bool.Decides.{nat_tests}
+use Rattle.rules.specs.Tree.{Head, Chain, flagged, is_end, after, alone, append}
 use Rattle.rules.specs.Tree.Chain.{end, link}
-use Rattle.rules.specs.Kinds.{var_declaration, for_statement, with_statement, declarator, plain_expression, expression, pattern, only}
+use Rattle.rules.specs.Kinds.{var_declaration, declarator, plain_expression, expression, pattern, only}
 use Rattle.rules.specs.Grammar.{Way}
 use Rattle.rules.specs.Grammar.Part.{one, maybe}
 use Rattle.rules.specs.Held.{Formed}
@@ -25,8 +26,7 @@ use Rattle.laws.proofs.KeepsTable.{declarators}
 
 -- the rules enter every Declarator
 declarator_entered : (p : Place) (h : Head) (children : Chain) (last : Bool) → h.kind ≡ declarator → entered p h children last ≡ true
-declarator_entered p h children last k =
-    rw (k, and-false (eqb p.parent with_statement), and-false (eqb p.parent for_statement), and-false p.in_export)
+declarator_entered p h children last k = grind (arith, nat_tests)
 
 -- what is left of a Declarator: itself, and then it was not to go; or nothing, and then it is not exported
 pub data DeclaratorLeft (by : By) (p : Place) (h : Head) (children left : Chain) : Type 0 where
@@ -138,13 +138,7 @@ inward_inside p h k x = rw (k, x)
 kept_valued : (by : By) (p : Place) (h d : Head) (parts : Chain) → h.kind ≡ var_declaration → p.in_export ≡ false → d.kind ≡ declarator →
     declarator_goes by (place_inside p h) d parts ≡ false → name_goes by p (flagged h) parts ≡ true → is_end (after parts) ≡ false
 kept_valued by p h d parts k x kd stayed goes =
-    let q = place_inside p h in
-    ⊎_elim (λ a. acts_filled by (after parts) a)
-    (λ a. absurd (both_ways (declarator_goes by q d parts) stayed
-    (and_from (d is declarator) _ (eq-eqb d.kind declarator kd)
-    (and_from (not q.in_export) _ (not_from_false q.in_export (inward_inside p h k x))
-    (and_from (name_goes by q q.in_var parts) _ (name_inside by p h parts k ∙ goes) (not_from_false (first_acts by (after parts)) a))))))
-    (cases_Bool (first_acts by (after parts)))
+    grind (arith, nat_tests, acts_filled by (after parts), name_inside by p h parts k, inward_inside p h k x)
 
 -- what a Var becomes has its child
 pub restated_formed : (by : By) (p : Place) (h : Head) (c : Chain) → Restated by p h c → FirstKept by (place_inside p h) c → Formed declarators c →

@@ -7,12 +7,12 @@
 --   done_formed                                       what is left of one record, and what follows
 --   entered_last, var_inward                          a Var that is entered in a For, and one that lost its Declarators
 --   treat_formed, inner_kept, keeps_formed            a chain; a record's children; the theorem
-use Rattle.std.proofs.Common.{◌≡◌, ℕ, Bool, true, false, not, ◌&&◌, eqb, List, [], ◌∷◌, sym, refl, subst, ⊎_elim, arith}
-use Rattle.std.proofs.lemmas.Bool.{both_ways, cases_Bool, or_parts, not-true, not-false, eqb-false}
+use Rattle.std.proofs.Common.{◌≡◌, ℕ, Bool, true, false, List, [], ◌∷◌, sym, refl, subst, arith}
+use Rattle.std.proofs.lemmas.Bool.{both_ways, false_from_ne_true, eqb-false}
 use Rattle.std.proofs.lemmas.Bool.Decides.{nat_tests}
-use Rattle.rules.specs.Tree.{Head, Chain, ◌is◌, is_end, below, after, alone, append}
+use Rattle.rules.specs.Tree.{Head, Chain, is_end, below, after, alone, append}
 use Rattle.rules.specs.Tree.Chain.{end, link}
-use Rattle.rules.specs.Kinds.{import_item, specifier, export_default, empty_statement, expression_statement, fn_declaration, class_declaration, var_declaration, for_statement, with_statement, declarator, object, call_expression, delete_expression, assignment, member, expression, statement, item}
+use Rattle.rules.specs.Kinds.{import_item, specifier, empty_statement, expression_statement, fn_declaration, class_declaration, var_declaration, for_statement, declarator, object, call_expression, assignment, member, expression, statement, item}
 use Rattle.rules.specs.Grammar.{words_fit, Way, assigned, children_of, step, root}
 use Rattle.rules.specs.Grammar.Part.{one}
 use Rattle.rules.specs.Held.{Formed}
@@ -101,12 +101,7 @@ module _ (by : By) (p : Place) (ways : List Way) (h : Head) (found : Chain) (rea
 
 -- a Var in a For that the rules enter is its last child
 entered_last : (p : Place) (h : Head) (children : Chain) (last : Bool) → entered p h children last ≡ true → h.kind ≡ var_declaration → p.parent ≡ for_statement → last ≡ true
-entered_last p h children last e k f =
-    let a = (or_parts (h is export_default) _ (not-true _ e)).1 in
-    let b = (or_parts (h is delete_expression) _ a).1 in
-    let c = (or_parts (eqb p.parent with_statement && statement h.kind) _ b).1 in
-    let d = (or_parts (eqb p.parent for_statement && (h is var_declaration && not last)) _ c).0 in
-    not-false last (rw (k, f) at d)
+entered_last p h children last e k f = grind (arith, nat_tests)
 
 end_last : (by : By) (p : Place) (c : Chain) → is_end c ≡ true → (treat by p c).chain ≡ end
 end_last by p end e = refl
@@ -122,9 +117,8 @@ var_inward : (by : By) (p : Place) (h : Head) (children : Chain) → Formed (chi
 var_inward by p h children f k e =
     let q = place_inside p h in
     let g : Formed declarators children = rw k at (inner_formed h children f) in
-    ⊎_elim
-    (λ x. absurd (both_ways (is_end (treat by q children).chain) (exported_filled by q (export_inside p h k x) children g (formed_filled (children_of h) children (rw k) f)) e))
-    (λ x. x) (cases_Bool p.in_export)
+    false_from_ne_true p.in_export
+    (λ x. both_ways (is_end (treat by q children).chain) (exported_filled by q (export_inside p h k x) children g (formed_filled (children_of h) children (rw k) f)) e)
 
 treat_formed : (by : By) (p : Place) (ways : List Way) (c : Chain) → Bears p ways → Formed ways c → Formed ways (treat by p c).chain
 treat_formed by p ways end ready f = f

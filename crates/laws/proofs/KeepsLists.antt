@@ -2,8 +2,8 @@
 --
 --   swept_formed                    sweeping
 --   inner_formed, children_formed   a record's children as they are treated, and as the table has them
-use Rattle.std.proofs.Common.{◌≡◌, ℕ, Bool, true, false, ◌&&◌, ◌||◌, List, [], ◌∷◌, sym, refl, subst, ⊎_elim}
-use Rattle.std.proofs.lemmas.Bool.{cond_both, cond-false, both_ways, cases_Bool, and_from, eqb-true}
+use Rattle.std.proofs.Common.{◌≡◌, ℕ, Bool, true, false, ◌&&◌, ◌||◌, List, [], ◌∷◌, sym, refl, subst, ⊎_elim, arith}
+use Rattle.std.proofs.lemmas.Bool.{cond_both, cond-false, both_ways, cases_Bool, eqb-true}
 use Rattle.rules.specs.Tree.{Head, Chain, ◌is◌, is_end}
 use Rattle.rules.specs.Tree.Chain.{end, link}
 use Rattle.rules.specs.Kinds.{empty_statement, block, var_declaration, declarator, only}
@@ -50,7 +50,7 @@ pub children_formed : (h : Head) (c : Chain) → var_emptied h c ≡ false → F
 children_formed h c e f =
     ⊎_elim
     (λ x.
-    let filled = ⊎_elim (λ y. absurd (both_ways (var_emptied h c) e (and_from (h is var_declaration) (is_end c) x y))) (λ y. y) (cases_Bool (is_end c)) in
+    let filled : is_end c ≡ false = grind arith in
     subst (λ (w : List Way). Formed w c) (sym (var_children h (eqb-true h.kind var_declaration x))) (list_var c filled (rw x at f)))
     (λ x. subst (λ (w : List Way). Formed w c) (cond-false (h is var_declaration) declarators (children_of h) x) f)
     (cases_Bool (h is var_declaration))

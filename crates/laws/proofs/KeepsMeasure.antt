@@ -4,11 +4,10 @@
 --   Measure                                a weight for each record, and its sum over a chain
 --   sum_append .. sum_wrapped              the pieces that are moved
 --   done_sum, treated_sum, treat_sum       one record; a chain
-use Rattle.std.proofs.Common.{◌≡◌, ℕ, ◌+◌, ◌≤◌, Bool, true, false, ◌&&◌, ◌||◌, arith}
-use Rattle.std.proofs.lemmas.Bool.{cond_both}
-use Rattle.rules.specs.Tree.{Head, Chain, ◌is◌, is_end, below, after, alone, append}
+use Rattle.std.proofs.Common.{◌≡◌, ℕ, ◌+◌, ◌≤◌, Bool, true, false, arith}
+use Rattle.rules.specs.Tree.{Head, Chain, is_end, below, after, alone, append}
 use Rattle.rules.specs.Tree.Chain.{end, link}
-use Rattle.rules.specs.Kinds.{empty_statement, block, expression_statement, plain_expression}
+use Rattle.rules.specs.Kinds.{empty_statement, expression_statement, plain_expression}
 use Rattle.rules.specs.Removal.{By, Place, place_inside, entered, swept, wrapped_object, Verdict, verdict, become, values, joined, Left, done, treated, treat}
 use Rattle.rules.specs.Removal.Verdict.{stays, sweeps, empties, unlinks, restates, yields, unwraps}
 
@@ -39,10 +38,7 @@ module _ (m : Measure) where
 
   pub sum_swept : (c : Chain) → m.sum (swept c) ≤ m.sum c
   sum_swept end = omega arith
-  sum_swept (link h children rest) =
-      cond_both (h is empty_statement || (h is block && is_end children)) (swept rest) (link h children (swept rest)) (λ (d : Chain). m.sum d ≤ m.sum (link h children rest))
-      (λ _. omega (arith, m.more h children rest, sum_swept rest))
-      (λ _. omega (arith, m.more h children rest, m.more h children (swept rest), sum_swept rest))
+  sum_swept (link h children rest) = grind (arith, m.more h children rest, m.more h children (swept rest), sum_swept rest)
 
   -- the values of Declarators, without the first Declarator's record
   values_beside : (d : Head) (parts rest : Chain) → m.sum (values rest) ≤ m.sum rest → m.sum (values (link d parts rest)) ≤ m.sum parts + m.sum rest
@@ -58,9 +54,7 @@ module _ (m : Measure) where
       let all = values (link d parts rest) in
       let fewer = values_beside d parts rest (sum_values rest) in
       let whole = m.more d parts rest in
-      cond_both (is_end (after all)) all (link (become plain_expression d) all end) (λ (e : Chain). m.sum e ≤ m.sum (link d parts rest))
-      (λ _. omega (arith, fewer, whole))
-      (λ _. omega (arith, fewer, whole, m.none, m.more (become plain_expression d) all end, m.becomes plain_expression d))
+      grind (arith, fewer, whole, m.none, m.more (become plain_expression d) all end, m.becomes plain_expression d)
 
   pub sum_wrapped : (c : Chain) → m.sum (wrapped_object c) ≤ m.sum c
   sum_wrapped c =

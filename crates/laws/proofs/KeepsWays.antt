@@ -5,11 +5,11 @@
 --   within_same .. within_step                ways added, and the ways on
 --   within_ends, within_placed, formed_within      more ways form more chains
 --   formed_filled                             a chain that may not end where it begins has a record
-use Rattle.std.proofs.Common.{◌≡◌, ℕ, true, false, List, [], ◌∷◌, ◌++◌, refl, ⊎_elim}
-use Rattle.std.proofs.lemmas.Bool.{both_ways, or_cases, or_left, or_right}
+use Rattle.std.proofs.Common.{◌≡◌, ℕ, true, false, List, [], ◌∷◌, ◌++◌, refl, arith}
+use Rattle.std.proofs.lemmas.Bool.{both_ways}
 use Rattle.rules.specs.Tree.{Chain, is_end}
 use Rattle.rules.specs.Tree.Chain.{end, link}
-use Rattle.rules.specs.Grammar.{Way, go_on, step, misplaced, ends, may_end}
+use Rattle.rules.specs.Grammar.{Way, go_on, step, misplaced, may_end}
 use Rattle.rules.specs.Held.{Formed}
 
 -- some of the ways, in their order
@@ -42,9 +42,8 @@ within_step k (more {way} w) = within_front (go_on k way) (within_step k w)
 
 within_ends : {a b : List Way} → Within a b → may_end a ≡ true → may_end b ≡ true
 within_ends none e = e
-within_ends (both {way} {a} {b} w) e =
-    ⊎_elim (λ x. or_left (ends way) (may_end b) x) (λ x. or_right (ends way) (may_end b) (within_ends w x)) (or_cases (ends way) (may_end a) e)
-within_ends (more {way} {a} {b} w) e = or_right (ends way) (may_end b) (within_ends w e)
+within_ends (both w) e = grind (arith, within_ends w)
+within_ends (more w) e = grind (arith, within_ends w)
 
 pub within_placed : {a b : List Way} → Within a b → misplaced a ≡ false → misplaced b ≡ false
 within_placed none e = e

@@ -3,10 +3,10 @@
 --
 --   without_treated      what is left of a tree without the string has none
 --   asm_free             a list without the string does not begin with it
-use Rattle.std.proofs.Common.{◌≡◌, Bool, true, false, ◌&&◌, eqb, refl}
+use Rattle.std.proofs.Common.{◌≡◌, Bool, false, ◌&&◌, eqb, refl, arith}
 use Rattle.rules.specs.Tree.{Head, Chain, ◌is◌}
 use Rattle.rules.specs.Tree.Chain.{end, link}
-use Rattle.rules.specs.Kinds.{expression_statement, literal, asm_symbol}
+use Rattle.rules.specs.Kinds.{literal, asm_symbol}
 use Rattle.rules.specs.Removal.{By, Place, asm, treat}
 use Rattle.rules.specs.Law.{WithoutAsm}
 use Rattle.laws.proofs.KeepsEverywhere.{Everywhere, treat_all}
@@ -33,13 +33,5 @@ without_treated by p c w = treat_all (λ n h. asm_string h ≡ false) (λ n c. W
 
 pub asm_free : (c : Chain) → WithoutAsm c → asm c ≡ false
 asm_free end p = refl
-asm_free (link h end rest) p = none (h is expression_statement)
-  where
-    none : (b : Bool) → (b && (false && eqb 0 asm_symbol)) ≡ false
-    none true = refl
-    none false = refl
-asm_free (link h (link g ds r) rest) p = none (h is expression_statement) p.1.0
-  where
-    none : (a : Bool) → asm_string g ≡ false → (a && asm_string g) ≡ false
-    none true q = q
-    none false q = refl
+asm_free (link h end rest) p = grind arith
+asm_free (link h (link g ds r) rest) p = grind (arith, p.1.0)

@@ -2,13 +2,17 @@
 -- surroundings, so their events are exchanged, the same names are declared, and equally many records are reached.
 --
 --   root_of, Turned                            roots over the same items in another order
+--   shuffled_same                              what adds up record by record
 --   counts_turned                              the tables without bound
 --   names_declared, names_turned               the names declared
 --   reached_turned                             the records reached
 use Rattle.std.specs.Prelude.{if◌then◌else◌}
-use Rattle.std.proofs.Common.{◌≡◌, ℕ, ◌+◌, Bool, true, false, ◌||◌, List, [], ◌∷◌, ◌++◌, sym, refl, ap, ◌∙◌, ap₂, subst₂, append_assoc, append-nil, arith}
-use mathlib.Core.Bool.{or_assoc}
-use Rattle.rules.specs.Tree.{Head, Chain, Name, reached, unnumbered}
+use Rattle.std.proofs.Common.{◌≡◌, ℕ, ◌+◌, Bool, true, false, ◌||◌, List, [], ◌++◌, sym, refl, ap, ◌∙◌, ap₂, subst₂, append_assoc, append-nil, arith}
+use Rattle.std.specs.List.{fold}
+use Rattle.std.proofs.lemmas.List.{map-append}
+use Rattle.std.proofs.lemmas.List.Folds.{list_any-append}
+use Rattle.std.proofs.lemmas.List.Sums.{fold-append}
+use Rattle.rules.specs.Tree.{Head, Chain, Name, name_of, reached, unnumbered}
 use Rattle.rules.specs.Tree.Chain.{end, link}
 use Rattle.rules.specs.Kinds.{module_root, script_root}
 use Rattle.rules.specs.Names.{same, among, names_of, keep, under_nothing, under, declares, declaring, declared}
@@ -16,7 +20,7 @@ use Rattle.rules.specs.Counting.{Event, Found, outermost, events_of}
 use Rattle.rules.specs.Tables.{no_rows}
 use Rattle.rules.specs.Law.{Shuffled}
 use Rattle.rules.specs.Law.Shuffled.{none, past, swap, again}
-use Rattle.laws.proofs.Basics.{or_swap, fold, fold-++, fold_swap}
+use Rattle.laws.proofs.Basics.{or_swap, Commutes, fold_swap}
 use Rattle.laws.proofs.TablesFilled.{filled}
 use Rattle.laws.proofs.TablesPass.{counts}
 use Rattle.laws.proofs.AlikeTables.{Alike, Exchanged, alike}
@@ -30,24 +34,28 @@ root_of m h = record { number = h.number; kind = if m then module_root else scri
 pub data Turned : Chain → Chain → Type 0 where
   roots : (m : Bool) (h g : Head) {cs ds : Chain} → Shuffled (unnumbered cs) (unnumbered ds) → Turned (link (root_of m h) cs end) (link (root_of m g) ds end)
 
+-- what adds up record by record, whichever comes first
+pub shuffled_same : {A R : Type 0} (see : Chain → R) (one : Head → Chain → A) (on : R → A → R) → Commutes on
+    → ((h : Head) (cs rest : Chain) → see (link h cs rest) ≡ on (see rest) (one h cs)) → {c d : Chain} → Shuffled c d → see c ≡ see d
+shuffled_same see one on k split none = refl
+shuffled_same {A} {R} see one on k split (past {h = h} {children = cs} {a = a} {b = b} s) =
+    split h cs a ∙ (ap (λ (r : R). on r (one h cs)) (shuffled_same see one on k split s) ∙ sym (split h cs b))
+shuffled_same {A} {R} see one on k split (swap {h = h} {g = g} {cs = cs} {ds = ds} {rest = rest}) =
+    split h cs (link g ds rest) ∙ (ap (λ (r : R). on r (one h cs)) (split g ds rest) ∙ (k (one h cs) (one g ds) (see rest)
+    ∙ sym (split g ds (link h cs rest) ∙ ap (λ (r : R). on r (one g ds)) (split h cs rest))))
+shuffled_same see one on k split (again s t) = shuffled_same see one on k split s ∙ shuffled_same see one on k split t
+
 -- EVENTS
 
 events_split : (h : Head) (cs rest : Chain) → events_of (link h cs rest) ≡ events_of (link h cs end) ++ events_of rest
 events_split h cs rest = simp append_assoc
 
-events_two : {R : Type 0} (f : Event → R → R) (h : Head) (cs rest : Chain) (r : R) → fold f (events_of (link h cs rest)) r ≡ fold f (events_of rest) (fold f (events_of (link h cs end)) r)
-events_two f h cs rest r = ap (λ (es : List Event). fold f es r) (events_split h cs rest) ∙ fold-++ f (events_of (link h cs end)) (events_of rest) r
-
 exchanged : {c d : Chain} → Shuffled c d → Exchanged (events_of c) (events_of d)
-exchanged none R f k r = refl
-exchanged (past {h = h} {children = cs} {a = a} {b = b} s) R f k r =
-    events_two f h cs a r ∙ (exchanged s R f k (fold f (events_of (link h cs end)) r) ∙ sym (events_two f h cs b r))
-exchanged (swap {h = h} {g = g} {cs = cs} {ds = ds} {rest = rest}) R f k r =
-    let x = events_of (link h cs end) in let y = events_of (link g ds end) in
-    events_two f h cs (link g ds rest) r ∙ (events_two f g ds rest (fold f x r)
-    ∙ (ap (fold f (events_of rest)) (fold_swap f k y x r)
-    ∙ sym (events_two f g ds (link h cs rest) r ∙ events_two f h cs rest (fold f y r))))
-exchanged (again s t) R f k r = exchanged s R f k r ∙ exchanged t R f k r
+exchanged s R f k r =
+    let two : (h : Head) (cs rest : Chain) (r : R) → fold f r (events_of (link h cs rest)) ≡ fold f (fold f r (events_of (link h cs end))) (events_of rest)
+    = λ h cs rest r. ap (fold f r) (events_split h cs rest) ∙ fold-append f r (events_of (link h cs end)) (events_of rest) in
+    ap (λ (g : R → R). g r) (shuffled_same (λ (c : Chain) (r : R). fold f r (events_of c)) (λ (h : Head) (cs : Chain). events_of (link h cs end))
+    (λ (g : R → R) (es : List Event) (r : R). g (fold f r es)) (λ xs ys g i r. g (fold_swap f k ys xs r i)) (λ h cs rest i r. two h cs rest r i) s)
 
 root_events : (m : Bool) (h : Head) (cs : Chain) → events_of (link (root_of m h) cs end) ≡ events_of cs ++ []
 root_events true h cs = refl
@@ -67,14 +75,6 @@ counts_turned (roots m h g {cs} {ds} s) = subst₂ Alike (sym (counts_root m h c
 abbrev pub names_declared : Chain → List Name
 names_declared c = names_of (declared c)
 
-names-++ : (xs ys : List Head) → names_of (xs ++ ys) ≡ names_of xs ++ names_of ys
-names-++ [] ys = refl
-names-++ (x ∷ xs) ys = ap (λ (ns : List Name). record { symbol = x.symbol; mark = x.mark } ∷ ns) (names-++ xs ys)
-
-among-++ : (n : Name) (xs ys : List Name) → among n (xs ++ ys) ≡ (among n xs || among n ys)
-among-++ n [] ys = refl
-among-++ n (x ∷ xs) ys = ap (λ (b : Bool). same n x || b) (among-++ n xs ys) ∙ sym (or_assoc (same n x) (among n xs) (among n ys))
-
 keep_split : (b : Bool) (h : Head) (xs ys : List Head) → keep b h (xs ++ ys) ≡ keep b h (xs ++ []) ++ ys
 keep_split true h xs ys = simp append_assoc
 keep_split false h xs ys = simp append_assoc
@@ -82,17 +82,12 @@ keep_split false h xs ys = simp append_assoc
 names_link : (n : Name) (h : Head) (cs rest : Chain) → among n (names_declared (link h cs rest)) ≡ (among n (names_declared (link h cs end)) || among n (names_declared rest))
 names_link n h cs rest =
     ap (λ (hs : List Head). among n (names_of hs)) (keep_split (declares under_nothing h) h (declaring (under under_nothing h) cs) (declared rest))
-    ∙ (ap (among n) (names-++ (declared (link h cs end)) (declared rest)) ∙ among-++ n (names_declared (link h cs end)) (names_declared rest))
+    ∙ (ap (among n) (map-append name_of (declared (link h cs end)) (declared rest)) ∙ list_any-append (same n) (names_declared (link h cs end)) (names_declared rest))
 
 names_shuffled : (n : Name) {c d : Chain} → Shuffled c d → among n (names_declared c) ≡ among n (names_declared d)
-names_shuffled n none = refl
-names_shuffled n (past {h = h} {children = cs} {a = a} {b = b} s) =
-    names_link n h cs a ∙ (ap (λ (z : Bool). among n (names_declared (link h cs end)) || z) (names_shuffled n s) ∙ sym (names_link n h cs b))
-names_shuffled n (swap {h = h} {g = g} {cs = cs} {ds = ds} {rest = rest}) =
-    let x = among n (names_declared (link h cs end)) in let y = among n (names_declared (link g ds end)) in
-    names_link n h cs (link g ds rest) ∙ (ap (λ (z : Bool). x || z) (names_link n g ds rest) ∙ (or_swap x y (among n (names_declared rest))
-    ∙ sym (names_link n g ds (link h cs rest) ∙ ap (λ (z : Bool). y || z) (names_link n h cs rest))))
-names_shuffled n (again s t) = names_shuffled n s ∙ names_shuffled n t
+names_shuffled n =
+    shuffled_same (λ (c : Chain). among n (names_declared c)) (λ (h : Head) (cs : Chain). among n (names_declared (link h cs end)))
+    (λ (r b : Bool). b || r) (λ x y r. or_swap x y r) (names_link n)
 
 declared_root : (m : Bool) (h : Head) (cs : Chain) → declared (link (root_of m h) cs end) ≡ declared cs ++ []
 declared_root true h cs = refl
@@ -113,10 +108,7 @@ reached_unnumbered end = refl
 reached_unnumbered (link h cs rest) = ap₂ (λ (x y : ℕ). 1 + x + y) (reached_unnumbered cs) (reached_unnumbered rest)
 
 reached_shuffled : {c d : Chain} → Shuffled c d → reached c ≡ reached d
-reached_shuffled none = refl
-reached_shuffled (past {children = cs} s) = ap (λ (x : ℕ). 1 + reached cs + x) (reached_shuffled s)
-reached_shuffled (swap {cs = cs} {ds = ds} {rest = rest}) = omega arith
-reached_shuffled (again s t) = reached_shuffled s ∙ reached_shuffled t
+reached_shuffled = shuffled_same reached (λ (h : Head) (cs : Chain). reached cs) (λ (r n : ℕ). 1 + n + r) (λ x y r. omega arith) (λ h cs rest. refl)
 
 pub reached_turned : {c d : Chain} → Turned c d → reached c ≡ reached d
 reached_turned (roots m h g {cs} {ds} s) = ap (λ (x : ℕ). 1 + x + 0) (sym (reached_unnumbered cs) ∙ (reached_shuffled s ∙ reached_unnumbered ds))

@@ -6,34 +6,28 @@
 --   has_symbol                             a record of a named kind has a symbol
 --   symbols_of_tree                        the rows of a tree formed by the table of kinds
 use Rattle.std.specs.Prelude.{if◌then◌else◌}
-use Rattle.std.proofs.Common.{◌≡◌, ℕ, Bool, true, false, not, ◌&&◌, ◌||◌, eqb, List, [], ◌∷◌, ◌++◌, length, sym, refl, ap, ◌∙◌, subst, inl, inr}
-use mathlib.Core.Bool.{or_assoc}
-use Rattle.std.proofs.lemmas.Bool.{or_cases, and_parts, not-true, eqb-true}
-use Rattle.rules.specs.Tree.{Head, Chain, Name, ◌is◌, name_of}
+use Rattle.std.proofs.Common.{◌≡◌, ℕ, Bool, true, false, ◌||◌, eqb, List, [], ◌∷◌, ◌++◌, length, sym, refl, ap, ◌∙◌, subst, arith}
+use Rattle.std.proofs.lemmas.Bool.Decides.{nat_tests}
+use Rattle.rules.specs.Tree.{Head, Chain, Name, name_of}
 use Rattle.rules.specs.Tree.Chain.{end, link}
-use Rattle.rules.specs.Kinds.{specifier, fn_declaration, class_declaration, name_pattern, property_name, member, known, definition_expression}
-use Rattle.rules.specs.Grammar.{named, name_fits, flags_fit, words_fit, Way, children_of, step, root}
+use Rattle.rules.specs.Kinds.{specifier, fn_declaration, class_declaration, member}
+use Rattle.rules.specs.Grammar.{named, words_fit, Way, children_of, step, root}
 use Rattle.rules.specs.Held.{Formed}
 use Rattle.rules.specs.Names.{same, among, names_of, binds, keep, Under, under_nothing, under, declares, declaring, declared}
 use Rattle.rules.specs.Tables.{some_row}
-use Rattle.rules.proofs.SameNames.{same_eq, same_refl}
-use Rattle.laws.proofs.Basics.{or_swap, each_member}
+use Rattle.rules.proofs.SameNames.{same_eq, same_laws}
+use Rattle.laws.proofs.Basics.{all_member}
 use Rattle.laws.proofs.TablesRows.{with_row, some_with_row}
-use Rattle.laws.proofs.TablesSizes.{Single, single_with_row, equal_sizes}
+use Rattle.laws.proofs.TablesSizes.{Single, single_none, single_with_row, equal_sizes}
 use Rattle.laws.proofs.TablesRoom.{all_declared}
 
 -- THE SAME NAMES
 
-among_some : (n : Name) (ms : List Name) → among n ms ≡ some_row (same n) ms
-among_some n [] = refl
-among_some n (m ∷ ms) = ap (λ (b : Bool). same n m || b) (among_some n ms)
-
 some_declared : (n : Name) (hs : List Head) (rows : List Name) → some_row (same n) (all_declared hs rows) ≡ (among n (names_of hs) || some_row (same n) rows)
 some_declared n [] rows = refl
 some_declared n (h ∷ hs) rows =
-    some_declared n hs (with_row (same (name_of h)) (name_of h) rows)
-    ∙ (ap (λ (b : Bool). among n (names_of hs) || b) (some_with_row (same n) (same (name_of h)) (name_of h) (λ r q x. subst (λ (y : Name). same n y ≡ true) (same_eq (name_of h) r q) x) rows)
-    ∙ (or_swap (among n (names_of hs)) (same n (name_of h)) (some_row (same n) rows) ∙ sym (or_assoc (same n (name_of h)) (among n (names_of hs)) (some_row (same n) rows))))
+    let there = some_with_row (same n) (same (name_of h)) (name_of h) (λ r q x. subst (λ (m : Name). same n m ≡ true) (same_eq (name_of h) r q) x) rows in
+    grind (arith, some_declared n hs (with_row (same (name_of h)) (name_of h) rows), there)
 
 -- a name is its own key
 abbrev itself : Name → Name
@@ -41,16 +35,15 @@ itself n = n
 
 single_onward : (hs : List Head) (rows : List Name) → Single itself same rows → Single itself same (all_declared hs rows)
 single_onward [] rows p = p
-single_onward (h ∷ hs) rows p = single_onward hs (with_row (same (name_of h)) (name_of h) rows) (single_with_row itself same same_eq same_refl (name_of h) rows p)
-
-some_alike : (hs gs : List Head) → ((n : Name) → among n (names_of hs) ≡ among n (names_of gs)) → (n : Name) → some_row (same n) (all_declared hs []) ≡ some_row (same n) (all_declared gs [])
-some_alike hs gs e n = some_declared n hs [] ∙ (ap (λ (b : Bool). b || false) (e n) ∙ sym (some_declared n gs []))
+single_onward (h ∷ hs) rows p = single_onward hs (with_row (same (name_of h)) (name_of h) rows) (single_with_row itself same_laws (name_of h) rows p)
 
 pub declared_names : (hs gs : List Head) → ((n : Name) → among n (names_of hs) ≡ among n (names_of gs)) → (n : Name) → among n (all_declared hs []) ≡ among n (all_declared gs [])
-declared_names hs gs e n = among_some n (all_declared hs []) ∙ (some_alike hs gs e n ∙ sym (among_some n (all_declared gs [])))
+declared_names hs gs e n = some_declared n hs [] ∙ (ap (λ (b : Bool). b || false) (e n) ∙ sym (some_declared n gs []))
 
 pub declared_sizes : (hs gs : List Head) → ((n : Name) → among n (names_of hs) ≡ among n (names_of gs)) → length (all_declared hs []) ≡ length (all_declared gs [])
-declared_sizes hs gs e = equal_sizes itself same same_eq same_refl (all_declared hs []) (all_declared gs []) (single_onward hs [] tt) (single_onward gs [] tt) (some_alike hs gs e)
+declared_sizes hs gs e =
+    let none = single_none itself same in
+    equal_sizes itself same_laws (all_declared hs []) (all_declared gs []) (single_onward hs [] none) (single_onward gs [] none) (declared_names hs gs e)
 
 -- SYMBOLS
 
@@ -69,27 +62,16 @@ symbols_declared (h ∷ hs) rows p q = symbols_declared hs (with_row (same (name
 
 -- a record of a named kind has a symbol
 has_symbol : (h : Head) → words_fit h ≡ true → named h.kind ≡ true → eqb h.symbol 0 ≡ false
-has_symbol h w q =
-    let fits = (and_parts (known h.kind && flags_fit h) (name_fits h) w).1 in
-    not-true (eqb h.symbol 0) (rw q at fits)
+has_symbol h w q = grind (arith, nat_tests)
 
 declarations_named : (k : ℕ) → member k (specifier ∷ fn_declaration ∷ class_declaration ∷ []) ≡ true → named k ≡ true
-declarations_named k = each_member (λ (j : ℕ). named j ≡ true) k (specifier ∷ fn_declaration ∷ class_declaration ∷ []) (refl, (refl, (refl, tt)))
+declarations_named k = all_member named k (specifier ∷ fn_declaration ∷ class_declaration ∷ []) refl
 
 binders_named : (h : Head) → binds h ≡ true → named h.kind ≡ true
-binders_named h e = elim (or_cases (h is name_pattern) (h is property_name) e) [
-  | inl q ↦ rw (eqb-true h.kind name_pattern q)
-  | inr q ↦ rw (eqb-true h.kind property_name q)
-]
+binders_named h e = grind (arith, nat_tests)
 
 declares_symbol : (u : Under) (h : Head) → words_fit h ≡ true → declares u h ≡ true → eqb h.symbol 0 ≡ false
-declares_symbol u h p e = elim (or_cases (member h.kind (specifier ∷ fn_declaration ∷ class_declaration ∷ []) || (u.binding && binds h)) (u.default && definition_expression h.kind && not (eqb h.symbol 0)) e) [
-  | inl q ↦ elim (or_cases (member h.kind (specifier ∷ fn_declaration ∷ class_declaration ∷ [])) (u.binding && binds h) q) [
-    | inl q ↦ has_symbol h p (declarations_named h.kind q)
-    | inr q ↦ has_symbol h p (binders_named h (and_parts u.binding (binds h) q).1)
-  ]
-  | inr q ↦ not-true (eqb h.symbol 0) (and_parts (u.default && definition_expression h.kind) (not (eqb h.symbol 0)) q).1
-]
+declares_symbol u h p e = grind (arith, nat_tests, has_symbol h p, declarations_named h.kind, binders_named h)
 
 symbols-++ : (xs ys : List Head) → Symbols (names_of xs) → Symbols (names_of ys) → Symbols (names_of (xs ++ ys))
 symbols-++ [] ys p q = q

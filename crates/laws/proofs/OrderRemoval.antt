@@ -8,17 +8,17 @@
 --   remains_unnumbered                record numbers apart
 --   root_treated                      what is left of a root that does not begin with 'use asm'
 use Rattle.std.specs.Prelude.{if◌then◌else◌}
-use Rattle.std.proofs.Common.{◌≡◌, Bool, true, false, not, ◌&&◌, ◌||◌, eqb, sym, refl, ap, ◌∙◌, subst₂}
-use Rattle.rules.specs.Tree.{Head, Chain, ◌is◌, is_end, append, unnumbered}
+use Rattle.std.proofs.Common.{◌≡◌, Bool, true, false, not, ◌||◌, eqb, sym, refl, ap, ◌∙◌, subst₂, arith}
+use Rattle.rules.specs.Tree.{Head, Chain, is_end, append, unnumbered}
 use Rattle.rules.specs.Tree.Chain.{end, link}
-use Rattle.rules.specs.Kinds.{module_root, script_root, empty_statement, block, for_statement}
+use Rattle.rules.specs.Kinds.{module_root, script_root, for_statement}
 use Rattle.rules.specs.Removal.{By, Place, at_root, place_inside, asm, entered, swept, Left, unchanged, both, treated, treat}
 use Rattle.rules.specs.Law.{Shuffled}
 use Rattle.rules.specs.Law.Shuffled.{none, past, swap, again}
-use Rattle.laws.proofs.Basics.{or_swap, cond_ap}
+use Rattle.laws.proofs.Basics.{or_swap}
 use Rattle.laws.proofs.Verdicts.{entered_anywhere}
 use Rattle.laws.proofs.UnnumberedRemoval.{swept_unnumbered, treat_unnumbered}
-use Rattle.laws.proofs.OrderCount.{root_of}
+use Rattle.laws.proofs.OrderCount.{root_of, shuffled_same}
 
 -- SHUFFLED CHAINS
 
@@ -59,9 +59,7 @@ remains by p c = swept (treat by p c).chain
 
 swept_append : (c d : Chain) → swept (append c d) ≡ append (swept c) (swept d)
 swept_append end d = refl
-swept_append (link h cs rest) d =
-    ap (λ (z : Chain). if h is empty_statement || (h is block && is_end cs) then z else link h cs z) (swept_append rest d)
-    ∙ sym (cond_ap (λ (z : Chain). append z (swept d)) (h is empty_statement || (h is block && is_end cs)) (swept rest) (link h cs (swept rest)))
+swept_append (link h cs rest) d = grind (arith, swept_append rest d)
 
 module _ (by : By) (p : Place) (quiet : eqb p.parent for_statement ≡ false) where
   treat_link : (h : Head) (cs rest : Chain) → treat by p (link h cs rest) ≡ both (item_left by p h cs) (treat by p rest)
@@ -86,14 +84,9 @@ module _ (by : By) (p : Place) (quiet : eqb p.parent for_statement ≡ false) wh
   changed_link h cs rest = ap (λ (l : Left). l.changed) (treat_link h cs rest)
 
   pub changed_shuffled : {c d : Chain} → Shuffled c d → (treat by p c).changed ≡ (treat by p d).changed
-  changed_shuffled none = refl
-  changed_shuffled (past {h = h} {children = cs} {a = a} {b = b} s) =
-      changed_link h cs a ∙ (ap (λ (z : Bool). (item_left by p h cs).changed || z) (changed_shuffled s) ∙ sym (changed_link h cs b))
-  changed_shuffled (swap {h = h} {g = g} {cs = cs} {ds = ds} {rest = rest}) =
-      let x = (item_left by p h cs).changed in let y = (item_left by p g ds).changed in
-      changed_link h cs (link g ds rest) ∙ (ap (λ (z : Bool). x || z) (changed_link g ds rest) ∙ (or_swap x y (treat by p rest).changed
-      ∙ sym (changed_link g ds (link h cs rest) ∙ ap (λ (z : Bool). y || z) (changed_link h cs rest))))
-  changed_shuffled (again s t) = changed_shuffled s ∙ changed_shuffled t
+  changed_shuffled =
+      shuffled_same (λ (c : Chain). (treat by p c).changed) (λ (h : Head) (cs : Chain). (item_left by p h cs).changed)
+      (λ (r b : Bool). b || r) (λ x y r. or_swap x y r) changed_link
 
 pub remains_unnumbered : (by : By) → ((c : Chain) → by.config.acts (unnumbered c) ≡ by.config.acts c) → (p : Place) (c : Chain) → unnumbered (remains by p c) ≡ remains by p (unnumbered c)
 remains_unnumbered by unseen p c = sym (swept_unnumbered (treat by p c).chain) ∙ ap (λ (l : Left). swept l.chain) (sym (treat_unnumbered by unseen p c))

@@ -6,17 +6,17 @@
 --   formed_items, root_items      its items are no expressions, each with its own number
 --   reordered_twins          the two trees of the law
 use Rattle.std.specs.Prelude.{if◌then◌else◌}
-use Rattle.std.proofs.Common.{◌≡◌, ℕ, Bool, true, false, ◌||◌, eqb, leb, List, [], ◌∷◌, sym, refl, ◌∙◌, subst, subst₂, inl, inr, arith}
-use Rattle.std.proofs.lemmas.Bool.{true≢false, false≢true, cases_Bool, or_cases, and_parts, and_left, eqb-true, leb-true, lt-leb}
+use Rattle.std.proofs.Common.{◌≡◌, ℕ, Bool, true, false, ◌||◌, eqb, List, [], sym, refl, ◌∙◌, subst, subst₂, inl, inr, arith}
+use Rattle.std.proofs.lemmas.Bool.{true≢false, false≢true, or_cases, eqb-true}
+use Rattle.std.proofs.lemmas.Bool.Decides.{nat_tests}
 use Rattle.rules.specs.Tree.{Head, Chain, below, unnumbered}
 use Rattle.rules.specs.Tree.Chain.{end, link}
-use Rattle.rules.specs.Kinds.{module_root, script_root, import_item, export_declaration, export_list, export_default, member, expression, statement, item}
+use Rattle.rules.specs.Kinds.{module_root, script_root, expression, statement, item}
 use Rattle.rules.specs.Grammar.{root}
 use Rattle.rules.specs.Held.{Numbers, Apart, Formed}
 use Rattle.rules.specs.Removal.{By, at_root, treat}
 use Rattle.rules.specs.Law.{Shuffled, root_kind, WithoutAsm, Reordered, item_at}
 use Rattle.rules.proofs.Sounds.{check_sound}
-use Rattle.laws.proofs.Basics.{each_member}
 use Rattle.laws.proofs.Formed.{list_of, listed, formed_one}
 use Rattle.laws.proofs.KeepsApart.{keeps_apart}
 use Rattle.laws.proofs.KeepsFormed.{keeps_formed}
@@ -89,10 +89,7 @@ rooted_as m (link h cs rest) q f =
 
 item_missing : (n : ℕ) (c : Chain) → (Numbers n c → ⊥) → item_at n c ≡ end
 item_missing n end f = refl
-item_missing n (link h cs rest) f = elim (cases_Bool (eqb n h.number)) [
-  | inl e ↦ absurd (f (inl (eqb-true n h.number e)))
-  | inr e ↦ rw e (item_missing n rest (λ x. f (inr (inr x))))
-]
+item_missing n (link h cs rest) f = grind (arith, nat_tests, item_missing n rest (λ x. f (inr (inr x))))
 
 formed_items : (sort : ℕ → Bool) → ((k : ℕ) → sort k ≡ true → expression k ≡ false) → (c : Chain) → Formed (list_of sort) c → Apart c → Items c
 formed_items sort plain end f a = tt
@@ -101,13 +98,10 @@ formed_items sort plain (link h cs rest) f a =
     (plain h.kind on.0, item_missing h.number rest a.1, formed_items sort plain rest on.1 a.4)
 
 statement_plain : (k : ℕ) → statement k ≡ true → expression k ≡ false
-statement_plain k h = let l = leb-true k 18 (and_parts (leb 9 k) (leb k 18) h).1 in and_left (leb 27 k) (leb k 36) (lt-leb 27 k (omega arith))
+statement_plain k h = grind (arith, nat_tests)
 
 item_plain : (k : ℕ) → item k ≡ true → expression k ≡ false
-item_plain k h = elim (or_cases (statement k) (member k (import_item ∷ export_declaration ∷ export_list ∷ export_default ∷ [])) h) [
-  | inl e ↦ statement_plain k e
-  | inr e ↦ each_member (λ (j : ℕ). expression j ≡ false) k (import_item ∷ export_declaration ∷ export_list ∷ export_default ∷ []) (refl, (refl, (refl, (refl, tt)))) e
-]
+item_plain k h = grind (arith, nat_tests)
 
 sort_plain : (m : Bool) (k : ℕ) → items_sort m k ≡ true → expression k ≡ false
 sort_plain true = item_plain

@@ -18,10 +18,7 @@ abbrev words_of : (width rows found : ℕ) → ℕ
 words_of width rows found = rows + (found / width * width - rows) + (found - found / width * width)
 
 length_table : (width : ℕ) (rows found : List ℕ) → length (table width rows found) ≡ words_of width (length rows) (length found)
-length_table width rows found =
-    let whole = length found / width * width in
-    length-append (rows ++ replicate (whole - length rows) 0) (drop whole found)
-    ∙ ap₂ ◌+◌ (length-append rows (replicate (whole - length rows) 0) ∙ ap (λ (n : ℕ). length rows + n) (length-replicate (whole - length rows) 0)) (length-drop whole found)
+length_table width rows found = simp (length-append, length-replicate, length-drop)
 
 pub table_sizes : (width : ℕ) (rows rows' found found' : List ℕ) → length rows ≡ length rows' → length found ≡ length found' → length (table width rows found) ≡ length (table width rows' found')
 table_sizes width rows rows' found found' p q = length_table width rows found ∙ (ap₂ (words_of width) p q ∙ sym (length_table width rows' found'))

@@ -5,7 +5,7 @@
 --   with_role                       the same surroundings with another role of a Name pattern
 --   refers_append, refers_swept, refers_after, refers_moved      what moves
 --   refers_joined                   the values of a Var's Declarators
-use Rattle.std.proofs.Common.{◌≡◌, true, false, ◌⊎◌, List, sym, refl, subst, inl, inr, ⊎_elim}
+use Rattle.std.proofs.Common.{◌≡◌, true, false, ◌⊎◌, List, sym, refl, subst, inl, inr, ⊎_elim, arith}
 use Rattle.std.proofs.lemmas.Bool.{cond_both, both_ways, eqb-true}
 use Rattle.rules.specs.Tree.{Head, Chain, ◌is◌, is_end, after, alone, append}
 use Rattle.rules.specs.Tree.Chain.{end, link}
@@ -47,8 +47,7 @@ inside_var a h k = rw k
 module _ (e : Event) where
   pub refers_append : (a : Around) (c d : Chain) → Refers a (append c d) e → Refers a c e ⊎ Refers a d e
   refers_append a end d x = inr x
-  refers_append a (link h cs rest) d x = ⊎_elim (λ y. inl (inl y))
-      (λ y. ⊎_elim (λ z. inl (inr (inl z))) (λ z. ⊎_elim (λ w. inl (inr (inr w))) (λ w. inr w) (refers_append a rest d z)) y) x
+  refers_append a (link h cs rest) d x = grind (arith, refers_append a rest d)
 
   pub refers_swept : (a : Around) (c : Chain) → Refers a (swept c) e → Refers a c e
   refers_swept a end = λ x. x

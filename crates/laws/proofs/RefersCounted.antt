@@ -2,39 +2,21 @@
 --
 --   count_refers, refers_count      an event of the count is a reference of the tree, and back
 use Rattle.std.specs.Prelude.{if◌then◌else◌}
-use Rattle.std.proofs.Common.{◌≡◌, ℕ, Bool, true, false, ◌&&◌, ◌||◌, List, [], ◌∷◌, ◌++◌, sym, refl, ap, ◌∙◌, subst, inl, inr, ⊎_elim}
+use Rattle.std.proofs.Common.{◌≡◌, ℕ, Bool, true, false, ◌&&◌, List, [], ◌∷◌, ◌++◌, sym, refl, ap, ◌∙◌, subst, inl, inr, ⊎_elim, arith}
 use Rattle.std.proofs.lemmas.Bool.{both_ways}
 use Rattle.rules.specs.Tree.{Head, Chain, Name, ◌is◌}
 use Rattle.rules.specs.Tree.Chain.{end, link}
-use Rattle.rules.specs.Kinds.{export_declaration, export_name, function, identifier, call_expression, name_pattern, property_name}
+use Rattle.rules.specs.Kinds.{export_declaration, function}
 use Rattle.rules.specs.Names.{names_of, distinct, bound, declared_below, exported}
-use Rattle.rules.specs.Counting.{Event, unheld, Found, nothing, Around, reading, writing, readings, marks, named_here, calls_eval, own, opens, leave, inside, count}
+use Rattle.rules.specs.Counting.{Event, unheld, Found, nothing, Around, reading, readings, marks, own, opens, leave, inside, count}
 use Rattle.rules.specs.Law.{In, Reference}
-use Rattle.laws.proofs.Basics.{in_append, in_left, in_right}
+use Rattle.laws.proofs.Basics.{in_append, in_left, in_right, only_if}
 use Rattle.laws.proofs.RefersExported.{in_exported, exported_in}
 use Rattle.laws.proofs.Refers.{Refers}
 
 -- what a record refers to does not hang on its children
-own_cases : (x y z t : Bool) (r w n : Found) (b d : Bool)
-    → (if x then r else if y then w else if z then n else if t then record { events = []; found_arguments = false; found_direct_eval = b } else nothing).events
-    ≡ (if x then r else if y then w else if z then n else if t then record { events = []; found_arguments = false; found_direct_eval = d } else nothing).events
-own_cases true y z t r w n b d = refl
-own_cases false true z t r w n b d = refl
-own_cases false false true t r w n b d = refl
-own_cases false false false true r w n b d = refl
-own_cases false false false false r w n b d = refl
-
 own_events : (a : Around) (h : Head) (cs : Chain) → (own a h cs).events ≡ (own a h end).events
-own_events a h cs =
-    own_cases (h is identifier || h is export_name) (h is property_name) (h is name_pattern) (h is call_expression) (reading a h) (writing a h) (named_here a a.role h) (calls_eval cs) (calls_eval end)
-
--- an event that is there only under a test
-in_found : (e : Event) (b : Bool) (f : Found) → In e (if b then f else nothing).events → (b ≡ true) × In e f.events
-in_found e true f x = (refl, x)
-in_found e false f x = absurd x
-
-found_in : (e : Event) (b : Bool) (f : Found) → b ≡ true → In e f.events → In e (if b then f else nothing).events
-found_in e b f g x = rw g x
+own_events a h cs = grind arith
 
 in_readings : (e : Event) (a : Around) (hs : List Head) → In e (readings a hs).events → (g : Head) × In g hs × In e (reading a g).events
 in_readings e a [] x = absurd x
@@ -79,7 +61,7 @@ module _ (e : Event) (r : Reference e) where
       let onward = (count a rest).events in
       ⊎_elim
       (λ y.
-      let z = in_found e (h is export_declaration) (readings a (exported cs)) y in
+      let z = only_if (λ (f : Found). In e f.events) (h is export_declaration) (readings a (exported cs)) nothing (λ z. z) y in
       let g = in_readings e a (exported cs) z.1 in
       inl (inl (z.0, (g.0, in_exported g.0 cs g.1, g.2))))
       (λ y. ⊎_elim (λ z. inr (inl (count_refers cs (inside a h) (left_in (opens h) h cs inner z))))
@@ -102,8 +84,7 @@ refers_count e (link h cs rest) a x =
     let onward = (count a rest).events in
     ⊎_elim
     (λ y. ⊎_elim
-    (λ z. in_left e before (under ++ (mine ++ onward)) (found_in e (h is export_declaration) (readings a (exported cs)) z.0
-    (readings_in e a z.1.0 (exported cs) (exported_in z.1.0 cs z.1.1) z.1.2)))
+    (λ z. in_left e before (under ++ (mine ++ onward)) (rw z.0 (readings_in e a z.1.0 (exported cs) (exported_in z.1.0 cs z.1.1) z.1.2)))
     (λ z. in_right e before (under ++ (mine ++ onward)) (in_right e under (mine ++ onward) (in_left e mine onward (subst (λ (es : List Event). In e es) (sym (own_events a h cs)) z)))) y)
     (λ y. in_right e before (under ++ (mine ++ onward)) (⊎_elim
     (λ z. in_left e under (mine ++ onward) (in_left_of e (opens h) h cs inner (refers_count e cs (inside a h) z)))

@@ -4,18 +4,19 @@
 --   Exports, in_exported, exported_in      the records that an Export declaration exports, place by place
 --   treat_exports                          none comes by a removal
 use Rattle.std.specs.Prelude.{if◌then◌else◌}
-use Rattle.std.proofs.Common.{◌≡◌, ℕ, Bool, true, false, ◌||◌, eqb, ◌⊎◌, List, [], ◌++◌, sym, refl, subst, inl, inr, ⊎_elim}
-use Rattle.std.proofs.lemmas.Bool.{cond_both, both_ways, eqb-true, cases_Bool}
+use Rattle.std.proofs.Common.{◌≡◌, ℕ, Bool, true, false, ◌||◌, eqb, ◌⊎◌, List, [], ◌++◌, sym, refl, subst, inl, inr, ⊎_elim, arith}
+use Rattle.std.proofs.lemmas.Bool.{both_ways}
+use Rattle.std.proofs.lemmas.Bool.Decides.{nat_tests}
 use Rattle.rules.specs.Tree.{Head, Chain, ◌is◌, is_end, after, alone, append}
 use Rattle.rules.specs.Tree.Chain.{end, link}
-use Rattle.rules.specs.Kinds.{fn_declaration, class_declaration, var_declaration, declarator, name_pattern, compound_pattern, default_pattern, property_name, expression}
+use Rattle.rules.specs.Kinds.{fn_declaration, class_declaration, var_declaration, declarator, expression}
 use Rattle.rules.specs.Grammar.{Way, assigned, children_of, step}
 use Rattle.rules.specs.Held.{Formed}
 use Rattle.rules.specs.Names.{binds, nests, keep, exported}
 use Rattle.rules.specs.Removal.{By, Place, place_inside, entered, swept, wrapped_object, Verdict, verdict, Left, done, treated, treat}
 use Rattle.rules.specs.Removal.Verdict.{stays, sweeps, empties, unlinks, restates, yields, unwraps}
 use Rattle.rules.specs.Law.{In}
-use Rattle.laws.proofs.Basics.{in_append, in_left, in_right, in_if, if_in}
+use Rattle.laws.proofs.Basics.{in_append, in_left, in_right, only_if}
 use Rattle.laws.proofs.Formed.{first_kind, assigned_value}
 use Rattle.laws.proofs.Verdicts.{wraps, Means, means, treated_both}
 use Rattle.laws.proofs.KeepsTable.{inner_ways}
@@ -48,7 +49,7 @@ in_exported g end x = x
 in_exported g (link h cs rest) x =
     let under = if carries h then exported cs else [] in
     ⊎_elim (λ y. inl y)
-    (λ y. inr (⊎_elim (λ z. let w = in_if g (carries h) (exported cs) z in inl (w.0, in_exported g cs w.1)) (λ z. inr (in_exported g rest z)) (in_append g under (exported rest) y)))
+    (λ y. inr (⊎_elim (λ z. let w = only_if (In g) (carries h) (exported cs) [] (λ w. w) z in inl (w.0, in_exported g cs w.1)) (λ z. inr (in_exported g rest z)) (in_append g under (exported rest) y)))
     (in_keep g h (bears h) (under ++ exported rest) x)
 
 pub exported_in : (g : Head) (c : Chain) → Exports g c → In g (exported c)
@@ -56,48 +57,39 @@ exported_in g end x = x
 exported_in g (link h cs rest) x =
     let under = if carries h then exported cs else [] in
     keep_in g h (bears h) (under ++ exported rest) (⊎_elim (λ y. inl y)
-    (λ y. inr (⊎_elim (λ z. in_left g under (exported rest) (if_in g (carries h) (exported cs) z.0 (exported_in g cs z.1))) (λ z. in_right g under (exported rest) (exported_in g rest z)) y)) x)
+    (λ y. inr (⊎_elim (λ z. in_left g under (exported rest) (rw z.0 (exported_in g cs z.1))) (λ z. in_right g under (exported rest) (exported_in g rest z)) y)) x)
 
 -- an expression is of no other kind
 pub other_kind : (k m : ℕ) → expression k ≡ true → expression m ≡ false → eqb k m ≡ false
-other_kind k m x y = ⊎_elim
-    (λ e. absurd (both_ways (expression m) y (subst (λ (j : ℕ). expression j ≡ true) (eqb-true k m e) x)))
-    (λ e. e) (cases_Bool (eqb k m))
+other_kind k m x y = grind (arith, nat_tests)
 
 expression_bears : (h : Head) → expression h.kind ≡ true → bears h ≡ false
-expression_bears h x = let k = h.kind in
-    rw (other_kind k fn_declaration x refl, other_kind k class_declaration x refl, other_kind k name_pattern x refl, other_kind k property_name x refl)
+expression_bears h x = grind (arith, nat_tests)
 
 expression_carries : (h : Head) → expression h.kind ≡ true → carries h ≡ false
-expression_carries h x = let k = h.kind in
-    rw (other_kind k var_declaration x refl, other_kind k declarator x refl, other_kind k compound_pattern x refl, other_kind k default_pattern x refl)
+expression_carries h x = grind (arith, nat_tests)
 
 module _ (g : Head) where
   exports_append : (c d : Chain) → Exports g (append c d) → Exports g c ⊎ Exports g d
   exports_append end d x = inr x
-  exports_append (link h cs rest) d x = ⊎_elim (λ y. inl (inl y))
-      (λ y. ⊎_elim (λ z. inl (inr (inl z))) (λ z. ⊎_elim (λ w. inl (inr (inr w))) (λ w. inr w) (exports_append rest d z)) y) x
+  exports_append (link h cs rest) d x = grind (arith, exports_append rest d)
 
   pub exports_swept : (c : Chain) → Exports g (swept c) → Exports g c
-  exports_swept end = λ x. x
-  exports_swept (link h cs rest) = cond_both _ (swept rest) (link h cs (swept rest)) (λ (c : Chain). Exports g c → Exports g (link h cs rest))
-      (λ _ x. inr (inr (exports_swept rest x)))
-      (λ _ x. ⊎_elim (λ y. inl y) (λ z. inr (⊎_elim (λ y. inl y) (λ y. inr (exports_swept rest y)) z)) x)
+  exports_swept end x = x
+  exports_swept (link h cs rest) x = grind (arith, exports_swept rest)
 
   -- an expression exports nothing
   expression_exports : (c : Chain) → expression (first_kind c) ≡ true → Exports g (alone c) → ⊥
   expression_exports end x y = y
-  expression_exports (link h cs rest) x y = ⊎_elim
-      (λ z. both_ways (bears h) (expression_bears h x) z.0)
-      (λ w. ⊎_elim (λ z. both_ways (carries h) (expression_carries h x) z.0) (λ z. z) w) y
+  expression_exports (link h cs rest) x y = grind (arith, expression_bears h x, expression_carries h x)
 
   done_exports : (by : By) (p : Place) (h : Head) (found : Chain) (inner : Left) → Formed (inner_ways h) inner.chain → (Exports g inner.chain → Exports g found)
       → (v : Verdict) → Means by p h found inner.chain v → Exports g (done v h inner).chain → Exports g (link h found end)
-  done_exports by p h found inner k t stays m x = ⊎_elim (λ y. inl y) (λ z. inr (⊎_elim (λ y. inl (y.0, t y.1)) (λ y. absurd y) z)) x
-  done_exports by p h found inner k t sweeps m x = ⊎_elim (λ y. inl y) (λ z. inr (⊎_elim (λ y. inl (y.0, t (exports_swept inner.chain y.1))) (λ y. absurd y) z)) x
-  done_exports by p h found inner k t (empties ns) m x = absurd (⊎_elim (λ y. both_ways false refl y.0) (λ z. ⊎_elim (λ y. both_ways false refl y.0) (λ y. y) z) x)
+  done_exports by p h found inner k t stays m x = grind (arith, t)
+  done_exports by p h found inner k t sweeps m x = grind (arith, t, exports_swept inner.chain)
+  done_exports by p h found inner k t (empties ns) m x = grind arith
   done_exports by p h found inner k t (unlinks n) m x = absurd x
-  done_exports by p h found inner k t restates m x = absurd (⊎_elim (λ y. both_ways false refl y.0) (λ z. ⊎_elim (λ y. both_ways false refl y.0) (λ y. y) z) x)
+  done_exports by p h found inner k t restates m x = grind arith
   done_exports by p h found inner k t (yields n) m x = absurd (expression_exports (after inner.chain) (assigned_value (assigned h) inner.chain (rw m.kind at k)) x)
   done_exports by p h found inner k t unwraps m x =
       absurd (expression_exports (wrapped_object inner.chain) (subst (λ (j : ℕ). expression j ≡ true) (sym (wraps inner.chain m.wraps).object) refl) x)

@@ -2,15 +2,14 @@
 --
 --   OnPaths, inside_on      a name on one of the paths; below a record
 --   holder_inside           the theorem
-use Rattle.std.specs.Prelude.{if◌then◌else◌}
-use Rattle.std.proofs.Common.{◌≡◌, ℕ, Bool, true, false, ◌||◌, ◌⊎◌, List, [], ◌∷◌, sym, ap, subst, inl, inr, ⊎_elim}
+use Rattle.std.proofs.Common.{◌≡◌, ℕ, Bool, true, false, ◌||◌, ◌⊎◌, List, [], ◌∷◌, sym, ap, subst, inl, inr, ⊎_elim, arith}
 use Rattle.std.proofs.lemmas.Bool.{cond_both}
 use Rattle.rules.specs.Tree.{Head, Chain, Name, ◌is◌, name_of}
 use Rattle.rules.specs.Tree.Chain.{end, link}
 use Rattle.rules.specs.Kinds.{export_name, fn_declaration, class_declaration, identifier, call_expression, name_pattern, property_name}
 use Rattle.rules.specs.Held.{Numbers}
 use Rattle.rules.specs.Names.{among}
-use Rattle.rules.specs.Counting.{Event, holders, refer, Found, nothing, Role, Around, outermost, put, reference, reading, writing, named_here, own, opens, inside, events_of}
+use Rattle.rules.specs.Counting.{Event, holders, refer, Found, nothing, Role, Around, outermost, put, reference, reading, writing, named_here, own, inside, events_of}
 use Rattle.rules.specs.Counting.Role.{declared_here, written, read_and_written}
 use Rattle.rules.specs.Law.{In, Reference, Inside}
 use Rattle.laws.proofs.Basics.{in_append}
@@ -30,16 +29,10 @@ held_on m ((n ∷ path) ∷ outer) x = inl x
 
 put_on : (m n : Name) (paths : List (List Name)) → OnPaths m (put n paths) → OnPaths m paths ⊎ (m ≡ n)
 put_on m n [] x = absurd x
-put_on m n (path ∷ outer) x = ⊎_elim
-    (λ y. ⊎_elim (λ z. inl (inl z)) (λ z. ⊎_elim (λ e. inr e) (λ w. absurd w) z) (in_append m path (n ∷ []) y))
-    (λ y. inl (inr y)) x
+put_on m n (path ∷ outer) x = grind (arith, in_append m path (n ∷ []))
 
 inside_on : (m : Name) (a : Around) (h : Head) → OnPaths m (inside a h).ast_paths → OnPaths m a.ast_paths ⊎ (((h is fn_declaration || h is class_declaration) ≡ true) × (m ≡ name_of h))
-inside_on m a h =
-    let Q = λ (paths : List (List Name)). OnPaths m paths → OnPaths m a.ast_paths ⊎ (((h is fn_declaration || h is class_declaration) ≡ true) × (m ≡ name_of h)) in
-    cond_both (h is fn_declaration || h is class_declaration) (put (name_of h) a.ast_paths) (if opens h then [] ∷ a.ast_paths else a.ast_paths) Q
-    (λ g x. ⊎_elim (λ y. inl y) (λ e. inr (g, e)) (put_on m (name_of h) a.ast_paths x))
-    (λ _. cond_both (opens h) ([] ∷ a.ast_paths) a.ast_paths Q (λ _ x. ⊎_elim (λ y. absurd y) (λ y. inl y) x) (λ _ x. inl x))
+inside_on m a h x = grind (arith, put_on m (name_of h) a.ast_paths)
 
 module _ (e : Event) where
   -- a reference of the record h
@@ -80,9 +73,7 @@ module _ (e : Event) where
 
   refers_stands : (c : Chain) (a : Around) → Refers a c e → Numbers e.at c
   refers_stands end a x = x
-  refers_stands (link h cs rest) a x = ⊎_elim
-      (λ y. ⊎_elim (λ z. inl z) (λ z. inr (inl z)) (here_of a h cs y).0)
-      (λ y. inr (⊎_elim (λ z. inl (refers_stands cs (inside a h) z)) (λ z. inr (refers_stands rest a z)) y)) x
+  refers_stands (link h cs rest) a x = grind (arith, here_of a h cs, refers_stands cs (inside a h), refers_stands rest a)
 
   refers_inside : (m : Name) → In m e.holders → (c : Chain) (a : Around) → Refers a c e → OnPaths m a.ast_paths ⊎ Inside m e.at c
   refers_inside m g end a x = absurd x

@@ -2,7 +2,7 @@
 -- tree that it found. Rule by rule: what stays refers as before, what moves is an expression, and what a rule makes refers to nothing.
 --
 --   done_refers, treat_refers      one record; a chain
-use Rattle.std.proofs.Common.{◌≡◌, false, List, sym, refl, subst, inl, inr, ⊎_elim}
+use Rattle.std.proofs.Common.{◌≡◌, false, List, sym, refl, subst, inl, inr, ⊎_elim, arith}
 use Rattle.std.proofs.lemmas.Bool.{both_ways}
 use Rattle.rules.specs.Tree.{Head, Chain, is_end, after}
 use Rattle.rules.specs.Tree.Chain.{end, link}
@@ -31,7 +31,7 @@ module _ (e : Event) where
   done_refers by p a h found inner k xs t sweeps m x = ⊎_elim
       (λ y. inl (here_kept a h found (swept inner.chain) (λ g z. xs g (exports_swept g inner.chain z)) y))
       (λ y. inr (⊎_elim (λ z. inl (t (refers_swept e (inside a h) inner.chain z))) (λ z. absurd z) y)) x
-  done_refers by p a h found inner k xs t (empties ns) m x = absurd (⊎_elim (λ y. ⊎_elim (λ z. both_ways false refl z.0) (λ z. z) y) (λ y. ⊎_elim (λ z. z) (λ z. z) y) x)
+  done_refers by p a h found inner k xs t (empties ns) m x = grind arith
   done_refers by p a h found inner k xs t (unlinks n) m x = absurd x
   done_refers by p a h found inner k xs t restates m x = ⊎_elim
       (λ y. absurd (⊎_elim (λ z. both_ways false refl z.0) (λ z. z) y))

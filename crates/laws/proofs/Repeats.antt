@@ -20,7 +20,6 @@ use Rattle.rules.specs.Calls.Repeated.{repeated, stopped}
 use Rattle.rules.specs.Law.{begun_on, outcome_tree, Removable, Counted, RepeatKept}
 use Rattle.laws.specs.Parts.{RepeatsLaw}
 use Rattle.laws.specs.RepeatsLaw.{BoundNeverEnds}
-use Rattle.laws.proofs.Basics.{refused_fine}
 use Rattle.laws.proofs.KeepsReached.{lost_reached}
 use Rattle.laws.proofs.RunsNumbered.{Numbered}
 use Rattle.laws.proofs.Runs.{Ready, begun_ready, Full, pass_result, turn_cases, call_cases, result_follows, called_one}
@@ -71,10 +70,10 @@ module _ (k : Config) (s : State) (fresh : s.changed ≡ false) (r : Ready s.tre
   }
 
 from_run : (k : Config) (turns : ℕ) (s : State) → s.changed ≡ false → Ready s.tree → Run k s turns (passes_from k turns s)
-from_run k zero s fresh r = record { numbered = λ l. absurd (omega (arith, l)); bounded = λ b x. absurd (refused_fine 0 0 b x); used = λ b x. absurd (refused_fine 0 0 b x) }
+from_run k zero s fresh r = record { numbered = λ l. absurd (omega (arith, l)); bounded = λ b x. cc; used = λ b x. cc }
 from_run k (suc turns) s fresh r =
     turn_cases k s (λ (a : After (Outcome Bool)). Run k s (suc turns) a) (passes_from k turns)
-    (λ number at l n e. record { numbered = λ _. n; bounded = λ b x. absurd (refused_fine number at b x); used = λ b x. absurd (refused_fine number at b x) })
+    (λ number at l n e. record { numbered = λ _. n; bounded = λ b x. cc; used = λ b x. cc })
     (λ p e f c. turns_on k s fresh r p e f turns c (from_run k turns (cleared (passed k s p)) refl (result_follows k s r _ (one_made p e f)).ready))
     (λ p e f c. turns_end k s fresh r p e f turns c)
     (pass_once k s) (pass_result k s r)
@@ -85,17 +84,17 @@ from_run k (suc turns) s fresh r =
 ended_repeated : (o : Outcome Bool) (made first passes told : ℕ) → repeat_answer (repeat_ended o made first) ≡ repeat_answer (repeated passes told)
     → (b : Bool) × (o ≡ fine b) × (made ≡ passes) × (first ≡ told)
 ended_repeated (fine b) made first passes told e = (b, refl, cc, cc)
-ended_repeated (refused number at) made first passes told e = let z : ◌≡◌ {A = ℕ} 0 1 = cc in absurd (omega arith)
+ended_repeated (refused number at) made first passes told e = cc
 
 -- how a repeat that was refused ended
 ended_stopped : (o : Outcome Bool) (made first at passes : ℕ) → Numbered o → repeat_answer (repeat_ended o made first) ≡ repeat_answer (stopped 0 at passes) → ⊥
-ended_stopped (fine b) made first at passes n e = let z : ◌≡◌ {A = ℕ} 0 1 = cc in omega arith
+ended_stopped (fine b) made first at passes n e = cc
 ended_stopped (refused number m) made first at passes n e = let z : number ≡ 0 = cc in omega (arith, n, z)
 
 fitting_kept : (k : Config) (c : Call) (s : State) → Ready s.tree → (passes first : ℕ)
     → (call_fitting k c s).answer ≡ repeat_answer (repeated passes first) → RepeatKept k passes first (outcome_tree (call_fitting k c s).state.tree)
-fitting_kept k pass s r passes first e = let z : ◌≡◌ {A = ℕ} 0 1 = cc in absurd (omega arith)
-fitting_kept k reset s r passes first e = let z : ◌≡◌ {A = ℕ} 0 1 = cc in absurd (omega arith)
+fitting_kept k pass s r passes first e = cc
+fitting_kept k reset s r passes first e = cc
 fitting_kept k repeat s r passes first e =
     let all = passes_from k (suc (reached_by s.tree)) (cleared s) in
     let i = from_run k (suc (reached_by s.tree)) (cleared s) refl r in
@@ -103,9 +102,9 @@ fitting_kept k repeat s r passes first e =
     record { bounded = omega (arith, i.bounded t.0 t.1, t.2, t.3); used = i.used t.0 t.1 }
 
 unfit_kept : (k : Config) (c : Call) (s : State) (passes first : ℕ) → unfit_answer c ≡ repeat_answer (repeated passes first) → RepeatKept k passes first (outcome_tree s.tree)
-unfit_kept k pass s passes first e = let z : ◌≡◌ {A = ℕ} 0 1 = cc in absurd (omega arith)
-unfit_kept k reset s passes first e = let z : ◌≡◌ {A = ℕ} 0 1 = cc in absurd (omega arith)
-unfit_kept k repeat s passes first e = let z : ◌≡◌ {A = ℕ} 0 1 = cc in absurd (omega arith)
+unfit_kept k pass s passes first e = cc
+unfit_kept k reset s passes first e = cc
+unfit_kept k repeat s passes first e = cc
 
 pub repeats_law : RepeatsLaw
 repeats_law k cs words a x passes first =
@@ -114,17 +113,17 @@ repeats_law k cs words a x passes first =
     subst P (sym t.1.2) (call_cases k t.0 t.1.0 P (fitting_kept k t.0 t.1.0 t.1.1 passes first) (unfit_kept k t.0 t.1.0 passes first))
 
 fitting_ends : (k : Config) (c : Call) (s : State) → Ready s.tree → (at passes : ℕ) → (call_fitting k c s).answer ≡ repeat_answer (stopped 0 at passes) → ⊥
-fitting_ends k pass s r at passes e = let z : ◌≡◌ {A = ℕ} 0 1 = cc in omega arith
-fitting_ends k reset s r at passes e = let z : ◌≡◌ {A = ℕ} 0 1 = cc in omega arith
+fitting_ends k pass s r at passes e = cc
+fitting_ends k reset s r at passes e = cc
 fitting_ends k repeat s r at passes e =
     let all = passes_from k (suc (reached_by s.tree)) (cleared s) in
     let i = from_run k (suc (reached_by s.tree)) (cleared s) refl r in
     ended_stopped all.answer (length all.made) (reached_by s.tree) at passes (i.numbered (omega arith)) e
 
 unfit_ends : (c : Call) (at passes : ℕ) → unfit_answer c ≡ repeat_answer (stopped 0 at passes) → ⊥
-unfit_ends pass at passes e = let z : ◌≡◌ {A = ℕ} 0 1 = cc in omega arith
-unfit_ends reset at passes e = let z : ◌≡◌ {A = ℕ} 0 1 = cc in omega arith
-unfit_ends repeat at passes e = let z : ◌≡◌ {A = ℕ} 1 0 = cc in omega arith
+unfit_ends pass at passes e = cc
+unfit_ends reset at passes e = cc
+unfit_ends repeat at passes e = cc
 
 pub bound_never_ends : BoundNeverEnds
 bound_never_ends k cs words a x at passes =

@@ -4,8 +4,8 @@
 --   ReadsSame, reads_link, reads_swept      the tree left gives the same counts, declared names, bound names and exported names
 --   treat_same                              a removal that changes nothing leaves such a tree
 use Rattle.std.specs.Prelude.{if◌then◌else◌}
-use Rattle.std.proofs.Common.{◌≡◌, ℕ, Bool, true, false, ◌&&◌, ◌||◌, List, [], ◌∷◌, ◌++◌, sym, refl, ap, ◌∙◌, subst, ⊎_elim}
-use Rattle.std.proofs.lemmas.Bool.{cond_both, and_parts, both_ways, or_cases, or_parts, or_left, or_right, eqb-true}
+use Rattle.std.proofs.Common.{◌≡◌, ℕ, Bool, true, false, ◌&&◌, ◌||◌, List, [], ◌∷◌, ◌++◌, sym, refl, ap, ◌∙◌, subst, ⊎_elim, arith}
+use Rattle.std.proofs.lemmas.Bool.{cond_both, and_parts, both_ways, or_cases, or_parts, eqb-true}
 use Rattle.rules.specs.Tree.{Head, Chain, ◌is◌, is_end, append}
 use Rattle.rules.specs.Tree.Chain.{end, link}
 use Rattle.rules.specs.Kinds.{export_declaration, export_name, empty_statement, block, fn_declaration, class_declaration, var_declaration, declarator, function, identifier, arrow, call_expression, name_pattern, property_name}
@@ -48,7 +48,7 @@ by_swept : (P : Head → Chain → Type 0) (h : Head) (cs : Chain) → Formed (c
     → P (with_kind h empty_statement) end → P (with_kind h block) end → P h cs
 by_swept P h end k g x y =
     each_member (λ (j : ℕ). P (with_kind h j) end) h.kind (empty_statement ∷ block ∷ []) (x, (y, tt))
-    (⊎_elim (λ z. or_left (h is empty_statement) _ z) (λ z. or_right (h is empty_statement) _ (or_left (h is block) false (and_parts (h is block) true z).0)) (or_cases (h is empty_statement) _ g))
+    (grind arith)
 by_swept P h (link i ds rest) k g x y = absurd (⊎_elim
     (λ z. both_ways false refl (empty_bare (eqb-true h.kind empty_statement z)))
     (λ z. both_ways false refl (and_parts (h is block) false z).1) (or_cases (h is empty_statement) _ g))
@@ -65,10 +65,7 @@ count_swept a ways (link h cs rest) s =
 
 declares_none : (b d : Bool) (h : Head) → let u : Under = record { binding = b; default = d } in
     (declares u (with_kind h empty_statement) ≡ false) × (declares u (with_kind h block) ≡ false)
-declares_none true true h = (refl, refl)
-declares_none true false h = (refl, refl)
-declares_none false true h = (refl, refl)
-declares_none false false h = (refl, refl)
+declares_none b d h = (grind arith, grind arith)
 
 declaring_none : (u : Under) (h : Head) (rest : Chain) → declares u h ≡ false → declaring u rest ≡ declaring u (link h end rest)
 declaring_none u h rest g = rw g

@@ -3,8 +3,8 @@
 --
 --   treat_used          a removal that changes nothing leaves only used removable functions
 --   pass_used           so they are counted
-use Rattle.std.proofs.Common.{◌≡◌, Bool, true, false, not, eqb, ◌⊎◌, List, sym, refl, ◌∙◌, subst, inl, inr, ⊎_elim}
-use Rattle.std.proofs.lemmas.Bool.{cond_both, and_parts, and_from, both_ways, or_parts, cases_Bool, not-false}
+use Rattle.std.proofs.Common.{◌≡◌, Bool, true, false, eqb, ◌⊎◌, List, sym, refl, ◌∙◌, subst, inl, inr, ⊎_elim, arith}
+use Rattle.std.proofs.lemmas.Bool.{cond_both, and_parts, both_ways, or_parts}
 use Rattle.rules.specs.Tree.{Head, Chain, Name, ◌is◌, name_of, is_end, append}
 use Rattle.rules.specs.Tree.Chain.{end, link}
 use Rattle.rules.specs.Kinds.{fn_declaration, for_statement}
@@ -13,7 +13,7 @@ use Rattle.rules.specs.Held.{Formed}
 use Rattle.rules.specs.Counting.{Found, outermost, events_of}
 use Rattle.rules.specs.Tables.{NameRow, Counts, look}
 use Rattle.rules.specs.Rings.{discount}
-use Rattle.rules.specs.Removal.{Config, By, Place, at_root, place_inside, permitted, retained, unused, has_list, entered, swept, fn_goes, Verdict, verdict, Left, done, treated, treat}
+use Rattle.rules.specs.Removal.{Config, By, Place, at_root, place_inside, unused, has_list, entered, swept, fn_goes, Verdict, verdict, Left, done, treated, treat}
 use Rattle.rules.specs.Removal.Verdict.{stays, sweeps, empties, unlinks, restates, yields, unwraps}
 use Rattle.rules.specs.Calls.{Pass, pass_by, remove}
 use Rattle.rules.specs.Law.{removable, Removable, Counted}
@@ -37,15 +37,7 @@ swept_removable k n p g (link h cs rest) = cond_both _ (swept rest) (link h cs (
 
 -- a removable function that does not go is used
 used_by : (by : By) (p : Place) (h : Head) → fn_goes by p h ≡ false → removable by.config p h ≡ true → unused (by.row (name_of h)) ≡ false
-used_by by p h g x = ⊎_elim
-    (λ u.
-    let n = name_of h in
-    let a = and_parts (h is fn_declaration) _ x in
-    let b = and_parts (not p.in_export) _ a.1 in
-    let c = and_parts (permitted by.config p true) (not (retained by.config n)) b.1 in
-    absurd (both_ways (fn_goes by p h) g (and_from _ _ a.0 (and_from _ _ b.0 (and_from _ _ c.0 (and_from _ _ c.1 u))))))
-    (λ u. u)
-    (cases_Bool (unused (by.row (name_of h))))
+used_by by p h g x = grind arith
 
 module _ (by : By) (n : Name) where
   -- what is left of removable functions of the name is used
@@ -97,7 +89,7 @@ module _ (by : By) (n : Name) where
       (treat_used p (step h.kind ways) rest s.3 q.1)
 
 used_counted : (r : NameRow) → unused r ≡ false → r.counted ≡ true
-used_counted r g = not-false r.counted (or_parts (not r.counted) _ g).0
+used_counted r g = grind arith
 
 -- no removable function that a pass without a change leaves lacks a counted reference or mark
 pub pass_used : (k : Config) (p : Pass) → Formed root p.found → Full p → (remove k p).changed ≡ false

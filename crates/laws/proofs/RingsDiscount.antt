@@ -4,35 +4,32 @@
 --   look_discount               a name's row after the rings are discounted
 --   open_row, counted_row       outside closed rings it is as counted; it is counted where it was
 use Rattle.std.specs.Prelude.{if◌then◌else◌}
-use Rattle.std.proofs.Common.{◌≡◌, true, false, cond, ◌||◌, List, [], ◌∷◌, sym, refl, ap, ◌∙◌, subst}
-use Rattle.std.proofs.lemmas.Bool.{cond_both, both_ways, or_parts}
+use Rattle.std.proofs.Common.{◌≡◌, true, false, List, [], ◌∷◌, sym, refl, subst, arith}
+use Rattle.std.proofs.lemmas.Bool.{cond_both, both_ways}
 use Rattle.rules.specs.Tree.{Name}
 use Rattle.rules.specs.Names.{same}
 use Rattle.rules.specs.Tables.{NameRow, Counts, fresh, look}
-use Rattle.rules.specs.Rings.{component, closed, less, discount_row, discount_rows, discount}
+use Rattle.rules.specs.Rings.{closed, discount_row, discount_rows, discount}
 use Rattle.rules.proofs.SameNames.{same_eq}
 use Rattle.laws.proofs.TablesFilled.{some_name}
 
 pub look_name : (n : Name) (rows : List NameRow) → (look n rows).name ≡ n
 look_name n [] = refl
-look_name n (r ∷ rs) = cond_both (same n r.name) r (look n rs) (λ (s : NameRow). s.name ≡ n) (λ e. sym (same_eq n r.name e)) (λ _. look_name n rs)
+look_name n (r ∷ rs) = grind (arith, look_name n rs, same_eq n r.name)
 
 -- a discounted row keeps its name
 name_kept : (c : Counts) (r : NameRow) → (discount_row c r).name ≡ r.name
-name_kept c r = elim (closed c r.name) as (λ b. (if b then less (component c.edges r.name) c.edges r else r).name ≡ r.name) [ true ↦ refl | false ↦ refl ]
+name_kept c r = grind arith
 
 -- a name's discounted row, if it has a row
 pub look_discount : (c : Counts) (n : Name) (rs : List NameRow) → look n (discount_rows c rs) ≡ (if some_name (same n) rs then discount_row c (look n rs) else fresh n)
 look_discount c n [] = refl
-look_discount c n (r ∷ rs) =
-    ap (λ (m : Name). if same n m then discount_row c r else look n (discount_rows c rs)) (name_kept c r)
-    ∙ elim (same n r.name) as (λ b. cond b (discount_row c r) (look n (discount_rows c rs)) ≡ cond (b || some_name (same n) rs) (discount_row c (cond b r (look n rs))) (fresh n))
-    [ true ↦ refl | false ↦ look_discount c n rs ]
+look_discount c n (r ∷ rs) = grind (arith, look_discount c n rs, name_kept c r)
 
 -- a name without a row reads as a fresh one
 look_missing : (n : Name) (rs : List NameRow) → some_name (same n) rs ≡ false → look n rs ≡ fresh n
 look_missing n [] g = refl
-look_missing n (r ∷ rs) g = let q = or_parts (same n r.name) (some_name (same n) rs) g in rw q.0 (look_missing n rs q.1)
+look_missing n (r ∷ rs) g = grind (arith, look_missing n rs)
 
 module _ (c : Counts) (n : Name) where
   -- a fact on a name's discounted row

@@ -5,7 +5,7 @@
 --   weighed, weights_entered, weighed_commutes    the weights of the edges that pass
 use Rattle.std.specs.Prelude.{if◌then◌else◌}
 use Rattle.std.proofs.Common.{◌≡◌, ℕ, ◌+◌, Bool, true, false, ◌||◌, List, [], ◌∷◌, sym, refl, ap, ◌∙◌, subst₂, arith}
-use mathlib.Core.Bool.{or_assoc, or_self}
+use mathlib.Core.Bool.{or_self}
 use Rattle.std.proofs.lemmas.Bool.{and_parts, and_from}
 use Rattle.rules.specs.Tree.{Name}
 use Rattle.rules.specs.Names.{same}
@@ -41,16 +41,13 @@ held_edge p (h ∷ hs) n = p h n || held_edge p hs n
 
 some_edge_held : (p : Name → Name → Bool) (e : Event) (hs : List Name) (c : Counts) → some_edge p (all_held e hs c).edges ≡ (held_edge p hs e.name || some_edge p c.edges)
 some_edge_held p e [] c = refl
-some_edge_held p e (h ∷ hs) c =
-    some_edge_held p e hs (held_by e h c)
-    ∙ (ap (λ (z : Bool). held_edge p hs e.name || z) (some_edge_changed p h e.name e c.edges)
-    ∙ (or_swap (held_edge p hs e.name) (p h e.name) (some_edge p c.edges) ∙ sym (or_assoc (p h e.name) (held_edge p hs e.name) (some_edge p c.edges))))
+some_edge_held p e (h ∷ hs) c = grind (arith, some_edge_held p e hs (held_by e h c), some_edge_changed p h e.name e c.edges)
 
 -- the same after an event
-abbrev pub edged : (Name → Name → Bool) → Event → Bool → Bool
-edged p e b = held_edge p e.holders e.name || b
+abbrev pub edged : (Name → Name → Bool) → Bool → Event → Bool
+edged p b e = held_edge p e.holders e.name || b
 
-pub some_edge_entered : (p : Name → Name → Bool) (e : Event) (c : Counts) → some_edge p (entered e c).edges ≡ edged p e (some_edge p c.edges)
+pub some_edge_entered : (p : Name → Name → Bool) (e : Event) (c : Counts) → some_edge p (entered e c).edges ≡ edged p (some_edge p c.edges) e
 some_edge_entered p e c = some_edge_held p e e.holders c
 
 pub edged_commutes : (p : Name → Name → Bool) → Commutes (edged p)
@@ -73,16 +70,10 @@ abbrev pub weights : (assigns : Bool) → (Name → Name → Bool) → List Edge
 weights a p rs = total (λ r. p r.from r.to) (weight a) rs
 
 new_share : (a b : Bool) (f t : Name) (e : Event) → (if b then weight a (adds_edge e (new_edge f t)) else 0) ≡ (if b then weighs a e else 0)
-new_share true true f t e = omega arith
-new_share false true f t e = omega arith
-new_share true false f t e = refl
-new_share false false f t e = refl
+new_share a b f t e = grind arith
 
 more_share : (a b : Bool) (r : EdgeRow) (e : Event) → (if b then weight a (adds_edge e r) else 0) ≡ (if b then weight a r else 0) + (if b then weighs a e else 0)
-more_share true true r e = omega arith
-more_share false true r e = omega arith
-more_share true false r e = refl
-more_share false false r e = refl
+more_share a b r e = grind arith
 
 weights_changed : (a : Bool) (p : Name → Name → Bool) (f t : Name) (e : Event) (rs : List EdgeRow) → weights a p (with_change (edge_of f t) (new_edge f t) (adds_edge e) rs) ≡ weights a p rs + (if p f t then weighs a e else 0)
 weights_changed a p f t e rs = total_with_change (λ r. p r.from r.to) (weight a) (edge_of f t) (new_edge f t) (adds_edge e) (if p f t then weighs a e else 0)
@@ -102,10 +93,10 @@ weights_held a p e (h ∷ hs) c =
     let g = weights_changed a p h e.name e c.edges in
     omega arith
 
-pub weighed : Bool → (Name → Name → Bool) → Event → ℕ → ℕ
-weighed a p e k = k + held_weight a p e.holders e
+pub weighed : Bool → (Name → Name → Bool) → ℕ → Event → ℕ
+weighed a p k e = k + held_weight a p e.holders e
 
-pub weights_entered : (a : Bool) (p : Name → Name → Bool) (e : Event) (c : Counts) → weights a p (entered e c).edges ≡ weighed a p e (weights a p c.edges)
+pub weights_entered : (a : Bool) (p : Name → Name → Bool) (e : Event) (c : Counts) → weights a p (entered e c).edges ≡ weighed a p (weights a p c.edges) e
 unfolding weighed
 weights_entered a p e c = weights_held a p e e.holders c
 

@@ -7,14 +7,15 @@
 --   entries, some_entry_entered, entries_commute  some entry passes
 -- The edges have a page of their own.
 use Rattle.std.proofs.Common.{◌≡◌, ◌+◌, Bool, true, false, cond, ◌&&◌, ◌||◌, List, [], ◌∷◌, sym, refl, ap, ◌∙◌, subst, arith}
-use mathlib.Core.Bool.{or_assoc, or_self, or_comm}
+use mathlib.Core.Bool.{or_self}
+use Rattle.std.specs.List.{fold}
 use Rattle.std.proofs.lemmas.Bool.{false≢true}
 use Rattle.rules.specs.Tree.{Name}
 use Rattle.rules.specs.Names.{same}
 use Rattle.rules.specs.Counting.{Event}
 use Rattle.rules.specs.Tables.{NameRow, EdgeRow, Counts, some_row, fresh, look, row_of, edge_of, reads, writes}
 use Rattle.rules.proofs.SameNames.{same_eq}
-use Rattle.laws.proofs.Basics.{or_swap, or_turn, cond_ap, cond_nest, cond_commutes, by_same, Commutes}
+use Rattle.laws.proofs.Basics.{or_swap, Commutes}
 use Rattle.laws.proofs.TablesRows.{with_row, with_change, some_with_row, some_with_change}
 
 -- an edge's row before anything is counted
@@ -50,27 +51,17 @@ entered e c = record {
 
 -- all events
 abbrev pub filled : List Event → Counts → Counts
-filled [] c = c
-filled (e ∷ es) c = filled es (entered e c)
+filled es c = fold (λ (d : Counts) (e : Event). entered e d) c es
 
 -- A NAME'S ROW
 
 look_with_row : (m n : Name) (rs : List NameRow) → look m (with_row (row_of n) (fresh n) rs) ≡ look m rs
-look_with_row m n [] = by_same m n (λ x b. cond b (fresh x) (fresh m) ≡ fresh m) refl (λ _. refl)
-look_with_row m n (r ∷ rs) = elim (same n r.name) as (λ b. look m (cond b (r ∷ rs) (r ∷ with_row (row_of n) (fresh n) rs)) ≡ look m (r ∷ rs))
-    [ true ↦ refl | false ↦ ap (cond (same m r.name) r) (look_with_row m n rs) ]
+look_with_row m n [] = grind (arith, same_eq m n)
+look_with_row m n (r ∷ rs) = grind (arith, look_with_row m n rs)
 
 look_with_change : (m n : Name) (e : Event) (rs : List NameRow) → look m (with_change (row_of n) (fresh n) (adds e) rs) ≡ cond (same m n) (adds e (look m rs)) (look m rs)
-look_with_change m n e [] = by_same m n (λ x b. cond b (adds e (fresh x)) (fresh m) ≡ cond b (adds e (fresh m)) (fresh m)) refl (λ _. refl)
-look_with_change m n e (r ∷ rs) =
-    let old = look m rs in
-    cond_ap (look m) (same n r.name) (adds e r ∷ rs) (r ∷ with_change (row_of n) (fresh n) (adds e) rs)
-    ∙ by_same n r.name
-    (λ x b. cond b (cond (same m x) (adds e r) old) (cond (same m x) r (look m (with_change (row_of n) (fresh n) (adds e) rs))) ≡ cond (same m n) (adds e (cond (same m x) r old)) (cond (same m x) r old))
-    (cond_nest (same m n) (adds e) r old)
-    (λ q. ap (cond (same m r.name) r) (look_with_change m n e rs)
-    ∙ by_same m n (λ y b. same y r.name ≡ false → cond (same m r.name) r (cond b (adds e old) old) ≡ cond b (adds e (cond (same m r.name) r old)) (cond (same m r.name) r old))
-    (λ z. rw z) (λ _ _. refl) q)
+look_with_change m n e [] = grind (arith, same_eq m n)
+look_with_change m n e (r ∷ rs) = grind (arith, look_with_change m n e rs, same_eq n r.name, same_eq m n)
 
 look_all_held : (m : Name) (e : Event) (hs : List Name) (c : Counts) → look m (all_held e hs c).names ≡ look m c.names
 look_all_held m e [] c = refl
@@ -78,23 +69,21 @@ look_all_held m e (h ∷ hs) c =
     look_all_held m e hs (held_by e h c) ∙ (look_with_row m e.name (with_row (row_of h) (fresh h) c.names) ∙ look_with_row m h c.names)
 
 -- a name's row after an event
-abbrev pub seen : Name → Event → NameRow → NameRow
-seen m e r = cond (same m e.name) (adds e r) r
+abbrev pub seen : Name → NameRow → Event → NameRow
+seen m r e = cond (same m e.name) (adds e r) r
 
-pub look_entered : (m : Name) (e : Event) (c : Counts) → look m (entered e c).names ≡ seen m e (look m c.names)
-look_entered m e c = look_with_change m e.name e (all_held e e.holders c).names ∙ ap (seen m e) (look_all_held m e e.holders c)
-
-or_turned : (a b c : Bool) → ((a || b) || c) ≡ ((a || c) || b)
-or_turned a b c = or_assoc a b c ∙ (ap (λ (d : Bool). a || d) (or_comm b c) ∙ sym (or_assoc a c b))
+pub look_entered : (m : Name) (e : Event) (c : Counts) → look m (entered e c).names ≡ seen m (look m c.names) e
+look_entered m e c = look_with_change m e.name e (all_held e e.holders c).names ∙ ap (λ (r : NameRow). seen m r e) (look_all_held m e e.holders c)
 
 adds_swap : (x y : Event) (r : NameRow) → adds x (adds y r) ≡ adds y (adds x r)
 adds_swap x y r =
     let p : r.usage + reads y + reads x ≡ r.usage + reads x + reads y = omega arith in
     let q : r.assign + writes y + writes x ≡ r.assign + writes x + writes y = omega arith in
-    λ i. record { name = r.name; usage = p i; assign = q i; entry = or_turned r.entry y.entry x.entry i; counted = true }
+    let o : ((r.entry || y.entry) || x.entry) ≡ ((r.entry || x.entry) || y.entry) = grind arith in
+    λ i. record { name = r.name; usage = p i; assign = q i; entry = o i; counted = true }
 
 pub seen_commutes : (m : Name) → Commutes (seen m)
-seen_commutes m x y r = cond_commutes (same m x.name) (same m y.name) (adds x) (adds y) r (adds_swap x y r)
+seen_commutes m x y r = grind (arith, adds_swap x y r)
 
 -- THE NAMES THERE ARE
 
@@ -117,18 +106,14 @@ held_name p (h ∷ hs) n = (p n || p h) || held_name p hs n
 some_name_held : (p : Name → Bool) (e : Event) (hs : List Name) (c : Counts) → some_name p (all_held e hs c).names ≡ (held_name p hs e.name || some_name p c.names)
 some_name_held p e [] c = refl
 some_name_held p e (h ∷ hs) c =
-    some_name_held p e hs (held_by e h c)
-    ∙ (ap (λ (z : Bool). held_name p hs e.name || z) (some_name_with p e.name (with_row (row_of h) (fresh h) c.names) ∙ ap (λ (z : Bool). p e.name || z) (some_name_with p h c.names))
-    ∙ or_turn (held_name p hs e.name) (p e.name) (p h) (some_name p c.names))
+    grind (arith, some_name_held p e hs (held_by e h c), some_name_with p e.name (with_row (row_of h) (fresh h) c.names), some_name_with p h c.names)
 
 -- the same after an event
-abbrev pub named : (Name → Bool) → Event → Bool → Bool
-named p e b = (p e.name || held_name p e.holders e.name) || b
+abbrev pub named : (Name → Bool) → Bool → Event → Bool
+named p b e = (p e.name || held_name p e.holders e.name) || b
 
-pub some_name_entered : (p : Name → Bool) (e : Event) (c : Counts) → some_name p (entered e c).names ≡ named p e (some_name p c.names)
-some_name_entered p e c =
-    some_name_changed p e.name e (all_held e e.holders c).names
-    ∙ (ap (λ (z : Bool). p e.name || z) (some_name_held p e e.holders c) ∙ sym (or_assoc (p e.name) (held_name p e.holders e.name) (some_name p c.names)))
+pub some_name_entered : (p : Name → Bool) (e : Event) (c : Counts) → some_name p (entered e c).names ≡ named p (some_name p c.names) e
+some_name_entered p e c = grind (arith, some_name_changed p e.name e (all_held e e.holders c).names, some_name_held p e e.holders c)
 
 pub named_commutes : (p : Name → Bool) → Commutes (named p)
 named_commutes p x y r = or_swap (p x.name || held_name p x.holders x.name) (p y.name || held_name p y.holders y.name) r
@@ -148,21 +133,13 @@ some_entry_held p e (h ∷ hs) c =
     some_entry_held p e hs (held_by e h c) ∙ (some_entry_with p e.name (with_row (row_of h) (fresh h) c.names) ∙ some_entry_with p h c.names)
 
 -- the same after an event
-abbrev pub entries : (Name → Bool) → Event → Bool → Bool
-entries p e b = (e.entry && p e.name) || b
+abbrev pub entries : (Name → Bool) → Bool → Event → Bool
+entries p b e = (e.entry && p e.name) || b
 
-entry_added : (a b c : Bool) → ((a || b) && c) ≡ ((b && c) || (a && c))
-entry_added true true true = refl
-entry_added true true false = refl
-entry_added true false c = refl
-entry_added false true true = refl
-entry_added false true false = refl
-entry_added false false c = refl
-
-pub some_entry_entered : (p : Name → Bool) (e : Event) (c : Counts) → some_entry p (entered e c).names ≡ entries p e (some_entry p c.names)
+pub some_entry_entered : (p : Name → Bool) (e : Event) (c : Counts) → some_entry p (entered e c).names ≡ entries p (some_entry p c.names) e
 some_entry_entered p e c =
     some_with_change (λ r. r.entry && p r.name) (row_of e.name) (fresh e.name) (adds e) (e.entry && p e.name) refl
-    (λ r q. entry_added r.entry e.entry (p r.name) ∙ ap (λ (x : Name). (e.entry && p x) || (r.entry && p r.name)) (sym (same_eq e.name r.name q)))
+    (λ r q. grind (arith, same_eq e.name r.name q))
     (all_held e e.holders c).names
     ∙ ap (λ (b : Bool). (e.entry && p e.name) || b) (some_entry_held p e e.holders c)
 

@@ -5,10 +5,10 @@
 --   fits, Larger                   the rows fit; tables grow
 --   all_declared, declare_bounded  the declared names, each once
 --   fill_bounded                   names and edges
-use Rattle.std.specs.Prelude.{if◌then◌else◌}
-use Rattle.std.proofs.Common.{◌≡◌, ℕ, suc, ◌+◌, ◌≤◌, Bool, true, false, ◌&&◌, ltb, leb, List, [], ◌∷◌, length, sym, refl, ap, ◌∙◌, subst, inl, inr, arith}
-use Rattle.std.proofs.lemmas.Bool.{cases_Bool, and_parts, and_from, and_cases, and_left, and_right, le-leb, lt-leb, leb-false, ltb-true, ltb-false}
-use Rattle.std.proofs.lemmas.List.{length_push}
+use Rattle.std.proofs.Common.{◌≡◌, ℕ, ◌+◌, ◌≤◌, Bool, true, false, ◌&&◌, ltb, leb, List, [], ◌∷◌, length, sym, refl, ap, ◌∙◌, subst, inl, inr, arith}
+use Rattle.std.proofs.lemmas.Bool.{cases_Bool, and_parts, and_from, and_left, and_right, le-leb, lt-leb, ltb-true, ltb-false}
+use Rattle.std.proofs.lemmas.Bool.Decides.{nat_tests}
+use Rattle.std.proofs.lemmas.List.{length-map, length_push}
 use Rattle.rules.specs.Tree.{Head, Name, name_of}
 use Rattle.rules.specs.Refusals.{Outcome, and_then, declared_full, names_full, edges_full}
 use Rattle.rules.specs.Refusals.Outcome.{fine, refused}
@@ -16,7 +16,7 @@ use Rattle.rules.specs.Names.{same}
 use Rattle.rules.specs.Counting.{Event}
 use Rattle.rules.specs.Tables.{Counts, no_rows, Room, some_row, need, declare, fresh, row_of, edge_of, need_name, need_edge, grow_edge, grow_name, hold, enter, fill}
 use Rattle.rules.proofs.SameNames.{same_refl}
-use Rattle.laws.proofs.TablesRows.{with_row, with_change, change_with, with_row_there, with_row_new}
+use Rattle.laws.proofs.TablesRows.{with_row, with_change, change_with, keys_with_change, with_row_there, with_row_new}
 use Rattle.laws.proofs.TablesFilled.{new_edge, adds_edge, adds, held_by, all_held, entered, filled}
 use Rattle.laws.proofs.TablesEdges.{edge_refl}
 
@@ -33,13 +33,12 @@ then_bounded (refused number at) f b a b' a' h g k = k h
 
 length_with_row : {Row : Type 0} (is_it : Row → Bool) (new : Row) (rs : List Row) → length rs ≤ length (with_row is_it new rs)
 length_with_row is_it new [] = omega arith
-length_with_row is_it new (r ∷ rs) = elim (is_it r) as (λ b. suc (length rs) ≤ length (if b then r ∷ rs else r ∷ with_row is_it new rs))
-    [ true ↦ omega arith | false ↦ let q = length_with_row is_it new rs in omega arith ]
+length_with_row is_it new (r ∷ rs) = grind (arith, length_with_row is_it new rs)
 
 length_with_change : {Row : Type 0} (is_it : Row → Bool) (new : Row) (to : Row → Row) (rs : List Row) → length (with_change is_it new to rs) ≡ length (with_row is_it new rs)
-length_with_change is_it new to [] = refl
-length_with_change is_it new to (r ∷ rs) = elim (is_it r) as (λ b. length (if b then to r ∷ rs else r ∷ with_change is_it new to rs) ≡ length (if b then r ∷ rs else r ∷ with_row is_it new rs))
-    [ true ↦ refl | false ↦ ap suc (length_with_change is_it new to rs) ]
+length_with_change {Row} is_it new to rs =
+    let none : Row → ℕ = λ r. 0 in
+    sym (length-map (with_change is_it new to rs) none) ∙ (ap length (keys_with_change none is_it new to (λ r. refl) rs) ∙ length-map (with_row is_it new rs) none)
 
 -- a row is needed
 need_bounded : {Row : Type 0} (is_it : Row → Bool) (new : Row) (space full at : ℕ) (rs : List Row) → leb (length rs) space ≡ true → Bounded (leb (length (with_row is_it new rs)) space) (with_row is_it new rs) (need is_it new space full at rs)
@@ -70,7 +69,7 @@ length_all_declared (h ∷ hs) rows =
 
 -- a size that does not fit stays so
 too_large : (space m n : ℕ) → m ≤ n → leb m space ≡ false → leb n space ≡ false
-too_large space m n l h = let k = leb-false m space h in lt-leb n space (omega arith)
+too_large space m n l h = grind (arith, nat_tests)
 
 declare_onward : (space : ℕ) (hs : List Head) (rows : List Name) → leb (length rows) space ≡ true → Bounded (leb (length (all_declared hs rows)) space) (all_declared hs rows) (declare space hs rows)
 declare_onward space [] rows h = (h, refl)
@@ -99,10 +98,7 @@ larger_than : {c d f : Counts} → Larger c d → Larger d f → Larger c f
 larger_than p q = record { names = let a = p.names in let b = q.names in omega arith; edges = let a = p.edges in let b = q.edges in omega arith }
 
 full_stays : (space : Room) {c d : Counts} → Larger c d → fits space c ≡ false → fits space d ≡ false
-full_stays space {c} {d} l h = elim (and_cases (leb (length c.names) space.names) (leb (length c.edges) space.edges) h) [
-  | inl q ↦ and_left (leb (length d.names) space.names) (leb (length d.edges) space.edges) (too_large space.names (length c.names) (length d.names) l.names q)
-  | inr q ↦ and_right (leb (length d.names) space.names) (leb (length d.edges) space.edges) (too_large space.edges (length c.edges) (length d.edges) l.edges q)
-]
+full_stays space {c} {d} l h = grind (arith, nat_tests, l.names, l.edges)
 
 -- a name's row is there
 abbrev name_there : Name → Counts → Counts

@@ -4,7 +4,7 @@
 --
 --   event_row, event_edge      by an event
 --   counted_only               back
-use Rattle.std.proofs.Common.{◌≡◌, Bool, true, false, ◌⊎◌, List, [], ◌∷◌, sym, refl, ◌∙◌, subst, inl, inr, ⊎_elim}
+use Rattle.std.proofs.Common.{◌≡◌, Bool, true, false, ◌⊎◌, List, [], ◌∷◌, sym, refl, ◌∙◌, subst, inl, inr, ⊎_elim, arith}
 use Rattle.std.proofs.lemmas.Bool.{cond_both, cond-true, both_ways, or_left, or_right}
 use Rattle.rules.specs.Tree.{Name}
 use Rattle.rules.specs.Names.{same}
@@ -41,9 +41,7 @@ module _ (p : Name → Name → Bool) where
 
   holder_edge : (m n : Name) (holders : List Name) → In m holders → p m n ≡ true → held_edge p holders n ≡ true
   holder_edge m n [] x y = absurd x
-  holder_edge m n (h ∷ hs) x y = ⊎_elim
-      (λ z. or_left (p h n) (held_edge p hs n) (subst (λ (k : Name). p k n ≡ true) z y))
-      (λ z. or_right (p h n) (held_edge p hs n) (holder_edge m n hs z y)) x
+  holder_edge m n (h ∷ hs) x y = grind (arith, holder_edge m n hs)
 
   -- each holder has its edge: a test that the two names pass is passed by some edge
   pub event_edge : (v : Event) (m : Name) → In m v.holders → p m v.name ≡ true → (es : List Event) (c : Counts) → In v es → some_edge p (filled es c).edges ≡ true

@@ -6,21 +6,22 @@
 --   bound_unnumbered, declaring_unnumbered, exported_unnumbered      the lists of records that bear names
 --   count_unnumbered                                          what is found in a chain
 use Rattle.std.specs.Prelude.{if◌then◌else◌}
-use Rattle.std.proofs.Common.{◌≡◌, ℕ, Bool, true, false, ◌&&◌, ◌||◌, eqb, List, [], ◌∷◌, ◌++◌, sym, refl, ap, ◌∙◌, ap₂}
+use Rattle.std.proofs.Common.{◌≡◌, ℕ, Bool, true, false, ◌&&◌, ◌||◌, List, [], ◌∷◌, ◌++◌, map, sym, refl, ap, ◌∙◌, ap₂, arith}
+use Rattle.std.proofs.lemmas.List.{map-append}
+use Rattle.std.proofs.lemmas.List.Folds.{fold-map}
+use Rattle.std.proofs.lemmas.Simd.{map-map}
 use Rattle.rules.specs.Tree.{Head, Chain, Name, ◌is◌, name_of, unnumbered_head, unnumbered}
 use Rattle.rules.specs.Tree.Chain.{end, link}
-use Rattle.rules.specs.Kinds.{export_declaration, export_name, fn_declaration, class_declaration, var_declaration, declarator, function, identifier, arrow, call_expression, name_pattern, property_name, arguments_symbol}
-use Rattle.rules.specs.Names.{among, names_of, distinct, binds, nests, keep, bound, Under, under_nothing, under, declares, declaring, declared_below, exported}
-use Rattle.rules.specs.Counting.{Event, holders, refer, marked, Found, ◌followed_by◌, Role, Around, reference, reading, readings, marks, named_here, calls_eval, own, opens, leave, inside, count}
+use Rattle.rules.specs.Kinds.{export_declaration, export_name, fn_declaration, class_declaration, var_declaration, declarator, function, identifier, arrow, call_expression, name_pattern, property_name}
+use Rattle.rules.specs.Names.{names_of, distinct, binds, nests, keep, bound, Under, under_nothing, under, declares, declaring, declared_below, exported}
+use Rattle.rules.specs.Counting.{Event, marked, Found, ◌followed_by◌, Role, Around, reference, reading, readings, marks, named_here, calls_eval, own, opens, leave, inside, count}
 use Rattle.rules.specs.Counting.Role.{declared_here, written, read_and_written}
 use Rattle.rules.specs.Tables.{Counts}
-use Rattle.laws.proofs.Basics.{cond_ap}
 use Rattle.laws.proofs.TablesFilled.{entered, filled}
 
 -- records, their numbers apart
 abbrev pub unnumbered_heads : List Head → List Head
-unnumbered_heads [] = []
-unnumbered_heads (h ∷ hs) = unnumbered_head h ∷ unnumbered_heads hs
+unnumbered_heads hs = map unnumbered_head hs
 
 -- an event, its place apart
 abbrev pub unplaced : Event → Event
@@ -28,26 +29,19 @@ unplaced e = record { name = e.name; writes = e.writes; holders = e.holders; ent
 
 -- events, their places apart
 abbrev pub unnumbered_events : List Event → List Event
-unnumbered_events [] = []
-unnumbered_events (e ∷ es) = unplaced e ∷ unnumbered_events es
+unnumbered_events es = map unplaced es
 
 -- what is found, the places of its events apart
 abbrev pub unnumbered_found : Found → Found
 unnumbered_found f = record { events = unnumbered_events f.events; found_arguments = f.found_arguments; found_direct_eval = f.found_direct_eval }
 
 pub filled_unnumbered : (es : List Event) (c : Counts) → filled (unnumbered_events es) c ≡ filled es c
-filled_unnumbered [] c = refl
-filled_unnumbered (e ∷ es) c = filled_unnumbered es (entered e c)
+filled_unnumbered es c = fold-map (λ (d : Counts) (e : Event). entered e d) unplaced c es
 
 -- LISTS OF RECORDS
 
 pub names_unnumbered : (hs : List Head) → names_of (unnumbered_heads hs) ≡ names_of hs
-names_unnumbered [] = refl
-names_unnumbered (h ∷ hs) = ap (λ (ns : List Name). name_of h ∷ ns) (names_unnumbered hs)
-
-heads-++ : (xs ys : List Head) → unnumbered_heads (xs ++ ys) ≡ unnumbered_heads xs ++ unnumbered_heads ys
-heads-++ [] ys = refl
-heads-++ (x ∷ xs) ys = ap (λ (zs : List Head). unnumbered_head x ∷ zs) (heads-++ xs ys)
+names_unnumbered hs = map-map name_of unnumbered_head hs
 
 keep_unnumbered : (b : Bool) (h : Head) (hs : List Head) → keep b (unnumbered_head h) (unnumbered_heads hs) ≡ unnumbered_heads (keep b h hs)
 keep_unnumbered true h hs = refl
@@ -56,10 +50,7 @@ keep_unnumbered false h hs = refl
 -- a record, what is under it if that is wanted, and the rest
 kept_unnumbered : (b n : Bool) (h : Head) (xs ys : List Head) {xs' ys' : List Head} → xs' ≡ unnumbered_heads xs → ys' ≡ unnumbered_heads ys
     → keep b (unnumbered_head h) ((if n then xs' else []) ++ ys') ≡ unnumbered_heads (keep b h ((if n then xs else []) ++ ys))
-kept_unnumbered b n h xs ys p q =
-    ap₂ (λ (us vs : List Head). keep b (unnumbered_head h) ((if n then us else []) ++ vs)) p q
-    ∙ (ap (λ (zs : List Head). keep b (unnumbered_head h) (zs ++ unnumbered_heads ys)) (sym (cond_ap unnumbered_heads n xs []))
-    ∙ (ap (keep b (unnumbered_head h)) (sym (heads-++ (if n then xs else []) ys)) ∙ keep_unnumbered b h ((if n then xs else []) ++ ys)))
+kept_unnumbered b n h xs ys p q = grind (arith, map-append unnumbered_head xs ys)
 
 bound_unnumbered : (c : Chain) → bound (unnumbered c) ≡ unnumbered_heads (bound c)
 bound_unnumbered end = refl
@@ -78,13 +69,9 @@ declaring_unnumbered u (link h children rest) =
 
 -- EVENTS
 
-events-++ : (xs ys : List Event) → unnumbered_events (xs ++ ys) ≡ unnumbered_events xs ++ unnumbered_events ys
-events-++ [] ys = refl
-events-++ (x ∷ xs) ys = ap (λ (zs : List Event). unplaced x ∷ zs) (events-++ xs ys)
-
 followed_unnumbered : (x y : Found) {x' y' : Found} → unnumbered_found x ≡ x' → unnumbered_found y ≡ y' → unnumbered_found (x followed_by y) ≡ x' followed_by y'
 followed_unnumbered x y p q =
-    (λ i. record { events = events-++ x.events y.events i; found_arguments = x.found_arguments || y.found_arguments; found_direct_eval = x.found_direct_eval || y.found_direct_eval })
+    (λ i. record { events = map-append unplaced x.events y.events i; found_arguments = x.found_arguments || y.found_arguments; found_direct_eval = x.found_direct_eval || y.found_direct_eval })
     ∙ ap₂ ◌followed_by◌ p q
 
 either_unnumbered : (b : Bool) (x y : Found) {x' y' : Found} → unnumbered_found x ≡ x' → unnumbered_found y ≡ y' → unnumbered_found (if b then x else y) ≡ (if b then x' else y')
@@ -92,11 +79,7 @@ either_unnumbered true x y p q = p
 either_unnumbered false x y p q = q
 
 reference_unnumbered : (a : Around) (w : Bool) (h : Head) → unnumbered_found (reference a w h) ≡ reference a w (unnumbered_head h)
-reference_unnumbered a w h = λ i. record {
-  events = cond_ap unnumbered_events (among (name_of h) a.cur_fn || among (name_of h) a.cur_class) [] (refer (name_of h) w (holders a.ast_paths) h.number ∷ []) i;
-  found_arguments = eqb h.symbol arguments_symbol;
-  found_direct_eval = false;
-}
+reference_unnumbered a w h = grind arith
 
 readings_unnumbered : (a : Around) (hs : List Head) → unnumbered_found (readings a hs) ≡ readings a (unnumbered_heads hs)
 readings_unnumbered a [] = refl
@@ -124,7 +107,7 @@ leave_unnumbered h children f =
     let below : names_of (declared_below h children) ≡ names_of (declared_below (unnumbered_head h) (unnumbered children))
     = sym (ap names_of (declaring_unnumbered (under under_nothing h) children) ∙ names_unnumbered (declared_below h children)) in
     let patterns : names_of (bound children) ≡ names_of (bound (unnumbered children)) = sym (ap names_of (bound_unnumbered children) ∙ names_unnumbered (bound children)) in
-    let all = events-++ (es ++ ms) ns ∙ ap₂ ◌++◌ (events-++ es ms ∙ ap (λ (z : List Event). unnumbered_events es ++ z) (marked_if f.found_direct_eval h.number _ _ (ap (distinct []) below)))
+    let all = map-append unplaced (es ++ ms) ns ∙ ap₂ ◌++◌ (map-append unplaced es ms ∙ ap (λ (z : List Event). unnumbered_events es ++ z) (marked_if f.found_direct_eval h.number _ _ (ap (distinct []) below)))
     (marked_if (f.found_arguments && h is function) h.number _ _ patterns) in
     λ i. record { events = all i; found_arguments = f.found_arguments && h is arrow; found_direct_eval = f.found_direct_eval }
 

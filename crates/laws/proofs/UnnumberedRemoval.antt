@@ -4,15 +4,13 @@
 --   blind                      a lawful judge does not see record numbers
 --   .. _unnumbered             what is read of a chain; each rule's test; what is done
 --   treat_unnumbered           what is left of a chain
-use Rattle.std.specs.Prelude.{if◌then◌else◌}
-use Rattle.std.proofs.Common.{◌≡◌, ℕ, Bool, true, false, not, ◌&&◌, ◌||◌, sym, refl, ap, ◌∙◌, ap₂}
-use Rattle.rules.specs.Tree.{Head, Chain, Name, ◌is◌, flagged, is_end, below, after, first_is, first_flagged, first_symbol, first_name, alone, append, unnumbered_head, unnumbered}
+use Rattle.std.proofs.Common.{◌≡◌, ℕ, Bool, true, false, not, ◌&&◌, ◌||◌, refl, ap, ◌∙◌, ap₂, arith}
+use Rattle.rules.specs.Tree.{Head, Chain, ◌is◌, flagged, is_end, below, after, first_is, first_flagged, first_symbol, first_name, alone, append, unnumbered_head, unnumbered}
 use Rattle.rules.specs.Tree.Chain.{end, link}
-use Rattle.rules.specs.Kinds.{empty_statement, block, expression_statement, var_declaration, declarator, method, property, static_block, identifier, plain_expression, call_expression, assignment, name_pattern, expression}
+use Rattle.rules.specs.Kinds.{expression_statement, declarator, identifier, name_pattern}
 use Rattle.rules.specs.Judges.{Lawful}
-use Rattle.rules.specs.Removal.{By, Place, place_inside, can_drop_assignment_to, first_acts, entered, swept, keeps_class, name_goes, all_go, only_identifiers, wraps_object, wrapped_object, fn_goes, class_goes, declarator_goes, specifier_goes, import_emptied, var_emptied, var_restates, assignment_yields, call_unwraps, Verdict, verdict, become, values, joined, Left, both, done, treated, treat}
+use Rattle.rules.specs.Removal.{By, Place, place_inside, first_acts, entered, swept, keeps_class, name_goes, all_go, only_identifiers, wraps_object, wrapped_object, class_goes, declarator_goes, import_emptied, var_restates, assignment_yields, Verdict, verdict, become, values, joined, Left, both, done, treated, treat}
 use Rattle.rules.specs.Removal.Verdict.{stays, sweeps, empties, unlinks, restates, yields, unwraps}
-use Rattle.laws.proofs.Basics.{cond_ap, if_both}
 
 twice_unnumbered : (c : Chain) → unnumbered (unnumbered c) ≡ unnumbered c
 twice_unnumbered end = refl
@@ -76,23 +74,18 @@ entered_unnumbered p h c last = simp (first_is_unnumbered, below_unnumbered, fir
 
 pub swept_unnumbered : (c : Chain) → swept (unnumbered c) ≡ unnumbered (swept c)
 swept_unnumbered end = refl
-swept_unnumbered (link h cs rest) =
-    ap₂ (λ (b : Bool) (c : Chain). if h is empty_statement || (h is block && b) then c else link (unnumbered_head h) (unnumbered cs) c) (is_end_unnumbered cs) (swept_unnumbered rest)
-    ∙ sym (cond_ap unnumbered (h is empty_statement || (h is block && is_end cs)) (swept rest) (link h cs (swept rest)))
+swept_unnumbered (link h cs rest) = grind (arith, is_end_unnumbered cs, swept_unnumbered rest)
 
 values_unnumbered : (c : Chain) → values (unnumbered c) ≡ unnumbered (values c)
 values_unnumbered end = refl
 values_unnumbered (link d parts rest) =
-    ap₂ append (ap alone (after_unnumbered parts) ∙ alone_unnumbered (after parts)) (values_unnumbered rest)
-    ∙ append_unnumbered (alone (after parts)) (values rest)
+    cc (after_unnumbered parts, alone_unnumbered (after parts), values_unnumbered rest, append_unnumbered (alone (after parts)) (values rest))
 
 joined_unnumbered : (c : Chain) → joined (unnumbered c) ≡ unnumbered (joined c)
 joined_unnumbered end = refl
 joined_unnumbered (link d parts rest) =
     let all = values (link d parts rest) in
-    ap (λ (vs : Chain). if is_end (after vs) then vs else link (become plain_expression (unnumbered_head d)) vs end) (values_unnumbered (link d parts rest))
-    ∙ (ap (λ (b : Bool). if b then unnumbered all else link (become plain_expression (unnumbered_head d)) (unnumbered all) end) (ap is_end (after_unnumbered all) ∙ is_end_unnumbered (after all))
-    ∙ sym (cond_ap unnumbered (is_end (after all)) all (link (become plain_expression d) all end)))
+    grind (arith, values_unnumbered (link d parts rest), after_unnumbered all, is_end_unnumbered (after all))
 
 -- what is left, record numbers apart
 abbrev pub unnumbered_left : Left → Left
@@ -122,10 +115,7 @@ module _ (by : By) (sees_no_number : (c : Chain) → by.config.acts (unnumbered 
 
   keeps_class_unnumbered : (c : Chain) → keeps_class by (unnumbered c) ≡ keeps_class by c
   keeps_class_unnumbered end = refl
-  keeps_class_unnumbered (link h cs rest) =
-      let at : Bool → Bool → Bool → Bool = λ itself value onward. (expression h.kind && itself) || (h is static_block || (((h is method || h is property) && flagged h) || ((h is property && value) || onward))) in
-      ap₂ (λ (x y : Bool). at x y (keeps_class by (unnumbered rest))) (sees_no_number (link h cs end)) (first_acts_unnumbered cs)
-      ∙ ap (at (first_acts by (link h cs end)) (first_acts by cs)) (keeps_class_unnumbered rest)
+  keeps_class_unnumbered (link h cs rest) = cc (sees_no_number (link h cs end), first_acts_unnumbered cs, keeps_class_unnumbered rest)
 
   name_goes_unnumbered : (p : Place) (v : Bool) (c : Chain) → name_goes by p v (unnumbered c) ≡ name_goes by p v c
   name_goes_unnumbered p v c = simp (first_is_unnumbered, first_name_unnumbered)
@@ -151,22 +141,20 @@ module _ (by : By) (sees_no_number : (c : Chain) → by.config.acts (unnumbered 
   var_restates_unnumbered p h c = rw (is_end_unnumbered c, all_go_unnumbered p (flagged h) c)
 
   assignment_yields_unnumbered : (p : Place) (h : Head) (c : Chain) → assignment_yields by p (unnumbered_head h) (unnumbered c) ≡ assignment_yields by p h c
-  assignment_yields_unnumbered p h c =
-      ap₂ (λ (x y : Bool). h is assignment && (x && (not y && can_drop_assignment_to by p (first_name (unnumbered c))))) (first_is_unnumbered name_pattern c) (value_unnumbered c)
-      ∙ ap (λ (n : Name). h is assignment && (first_is name_pattern c && (not (first_acts by (after c)) && can_drop_assignment_to by p n))) (first_name_unnumbered c)
+  assignment_yields_unnumbered p h c = cc (first_is_unnumbered name_pattern c, value_unnumbered c, first_name_unnumbered c)
 
   verdict_unnumbered : (p : Place) (h : Head) (found c : Chain) → verdict by p (unnumbered_head h) (unnumbered found) (unnumbered c) ≡ verdict by p h found c
   verdict_unnumbered p h found c =
-      if_both (fn_goes by p h) refl refl
-      (if_both (class_goes by p h c) (class_goes_unnumbered p h c) refl
-      (if_both (declarator_goes by p h c) (declarator_goes_unnumbered p h c) (ap unlinks (first_name_unnumbered c))
-      (if_both (specifier_goes by p h) refl refl
-      (if_both (import_emptied by h found c) (import_emptied_unnumbered h found c) refl
-      (if_both (var_emptied h c) (ap (λ (b : Bool). h is var_declaration && b) (is_end_unnumbered c)) refl
-      (if_both (var_restates by p h c) (var_restates_unnumbered p h c) refl
-      (if_both (assignment_yields by p h c) (assignment_yields_unnumbered p h c) (ap yields (first_name_unnumbered c))
-      (if_both (call_unwraps h c) (ap (λ (b : Bool). h is call_expression && b) (wraps_object_unnumbered c)) refl
-      refl))))))))
+      cc (
+        class_goes_unnumbered p h c,
+        declarator_goes_unnumbered p h c,
+        import_emptied_unnumbered h found c,
+        var_restates_unnumbered p h c,
+        assignment_yields_unnumbered p h c,
+        wraps_object_unnumbered c,
+        is_end_unnumbered c,
+        first_name_unnumbered c,
+      )
 
   treated_unnumbered : (into : Bool) (p : Place) (h : Head) (found : Chain) (inner : Left) → treated into by p (unnumbered_head h) (unnumbered found) (unnumbered_left inner) ≡ unnumbered_left (treated into by p h found inner)
   treated_unnumbered true p h found inner = ap (λ (v : Verdict). done v (unnumbered_head h) (unnumbered_left inner)) (verdict_unnumbered p h found inner.chain) ∙ done_unnumbered (verdict by p h found inner.chain) h inner

@@ -9,12 +9,13 @@
 --   emptying_kind                                                 the kinds that become Empty
 --   entered_anywhere                                              outside a For it does not matter whether a record comes last
 --   Wraps, wraps                                                  the parts of a Call that wraps an Object
-use Rattle.std.proofs.Common.{◌≡◌, ℕ, Bool, true, false, not, ◌||◌, eqb, List, [], ◌∷◌, refl}
-use Rattle.std.proofs.lemmas.Bool.{cond_both, and_parts, both_ways, not-true, eqb-true}
-use Rattle.rules.specs.Tree.{Head, Chain, Name, ◌is◌, flagged, name_of, is_end, below, after, first_is, first_flagged, first_symbol, first_name}
+use Rattle.std.proofs.Common.{◌≡◌, ℕ, Bool, true, false, eqb, List, [], ◌∷◌, refl, arith}
+use Rattle.std.proofs.lemmas.Bool.{cond_both, both_ways, eqb-true}
+use Rattle.std.proofs.lemmas.Bool.Decides.{nat_tests}
+use Rattle.rules.specs.Tree.{Head, Chain, Name, flagged, name_of, is_end, below, first_is, first_name}
 use Rattle.rules.specs.Tree.Chain.{end, link}
-use Rattle.rules.specs.Kinds.{module_root, script_root, import_item, specifier, block, plain_statement, fn_declaration, class_declaration, var_declaration, for_statement, declarator, function_expression, object, call_expression, assignment, name_pattern, member}
-use Rattle.rules.specs.Removal.{By, Place, permitted, retained, unused, never_read, can_drop_binding, first_acts, has_list, entered, name_goes, all_go, only_identifiers, wraps_object, wrapped_object, fn_goes, class_goes, declarator_goes, specifier_goes, import_emptied, var_emptied, var_restates, assignment_yields, call_unwraps, Verdict, verdict, Left, unchanged, done, treated}
+use Rattle.rules.specs.Kinds.{module_root, script_root, import_item, specifier, block, plain_statement, fn_declaration, class_declaration, var_declaration, for_statement, declarator, function_expression, object, call_expression, assignment, member}
+use Rattle.rules.specs.Removal.{By, Place, unused, never_read, can_drop_binding, has_list, entered, all_go, only_identifiers, wraps_object, wrapped_object, fn_goes, class_goes, declarator_goes, specifier_goes, import_emptied, var_emptied, var_restates, assignment_yields, call_unwraps, Verdict, verdict, Left, unchanged, done, treated}
 use Rattle.rules.specs.Removal.Verdict.{stays, sweeps, empties, unlinks, restates, yields, unwraps}
 use Rattle.laws.proofs.Basics.{each_member}
 use Rattle.laws.proofs.Formed.{first_kind}
@@ -80,71 +81,35 @@ Means by p h found children (yields name) = Yielded by h name
 Means by p h found children unwraps = Unwrapped h children
 
 pub can_unused : (by : By) (p : Place) (v : Bool) (n : Name) → can_drop_binding by p v n ≡ true → unused (by.row n) ≡ true
-can_unused by p v n g =
-    let a = and_parts (permitted by.config p v) _ g in
-    (and_parts (not (retained by.config n)) _ a.1).1
+can_unused by p v n g = grind arith
 
 module _ (by : By) (p : Place) (h : Head) (found children : Chain) where
   fn_means : fn_goes by p h ≡ true → Emptied by p h found children (name_of h ∷ [])
-  fn_means g =
-      let a = and_parts (h is fn_declaration) _ g in
-      let b = and_parts (not p.in_export) _ a.1 in
-      record { which = fn (eqb-true h.kind fn_declaration a.0) (not-true p.in_export b.0); free = (can_unused by p true (name_of h) b.1, tt) }
+  fn_means g = record { which = fn (grind (arith, nat_tests)) (grind arith); free = (can_unused by p true (name_of h) (grind arith), tt) }
 
   class_means : class_goes by p h children ≡ true → Emptied by p h found children (name_of h ∷ [])
-  class_means g =
-      let a = and_parts (h is class_declaration) _ g in
-      let b = and_parts (not p.in_export) _ a.1 in
-      let c = and_parts (can_drop_binding by p false (name_of h)) _ b.1 in
-      record { which = class (eqb-true h.kind class_declaration a.0) (not-true p.in_export b.0); free = (can_unused by p false (name_of h) c.0, tt) }
+  class_means g = record { which = class (grind (arith, nat_tests)) (grind arith); free = (can_unused by p false (name_of h) (grind arith), tt) }
 
   declarator_means : declarator_goes by p h children ≡ true → Unlinked by p h (first_name children)
-  declarator_means g =
-      let a = and_parts (h is declarator) _ g in
-      let b = and_parts (not p.in_export) _ a.1 in
-      let c = and_parts (name_goes by p p.in_var children) _ b.1 in
-      let d = and_parts (first_is name_pattern children) _ c.0 in
-      record { which = declares (eqb-true h.kind declarator a.0) (not-true p.in_export b.0); free = can_unused by p p.in_var (first_name children) d.1 }
+  declarator_means g = record { which = declares (grind (arith, nat_tests)) (grind arith); free = can_unused by p p.in_var (first_name children) (grind arith) }
 
   specifier_means : specifier_goes by p h ≡ true → Unlinked by p h (name_of h)
-  specifier_means g =
-      let a = and_parts (h is specifier) _ g in
-      record { which = specifies (eqb-true h.kind specifier a.0); free = can_unused by p false (name_of h) a.1 }
+  specifier_means g = record { which = specifies (grind (arith, nat_tests)); free = can_unused by p false (name_of h) (grind arith) }
 
   import_means : import_emptied by h found children ≡ true → Emptied by p h found children []
-  import_means g =
-      let a = and_parts (h is import_item) _ g in
-      let b = and_parts (not by.config.preserve_imports) _ a.1 in
-      let c = and_parts (not (is_end found)) _ b.1 in
-      record { which = imports (eqb-true h.kind import_item a.0) (not-true (is_end found) c.0); free = tt }
+  import_means g = record { which = imports (grind (arith, nat_tests)) (grind arith); free = tt }
 
   var_means : var_emptied h children ≡ true → Emptied by p h found children []
-  var_means g =
-      let a = and_parts (h is var_declaration) _ g in
-      record { which = var (eqb-true h.kind var_declaration a.0) a.1; free = tt }
+  var_means g = record { which = var (grind (arith, nat_tests)) (grind arith); free = tt }
 
   restates_means : var_restates by p h children ≡ true → Restated by p h children
-  restates_means g =
-      let a = and_parts (h is var_declaration) _ g in
-      let b = and_parts (not p.in_export) _ a.1 in
-      let c = and_parts (not (is_end children)) _ b.1 in
-      record { kind = eqb-true h.kind var_declaration a.0; inward = not-true p.in_export b.0; filled = not-true (is_end children) c.0; go = c.1 }
+  restates_means g = record { kind = grind (arith, nat_tests); inward = grind arith; filled = grind arith; go = grind arith }
 
   yields_means : assignment_yields by p h children ≡ true → Yielded by h (first_name children)
-  yields_means g =
-      let n = first_name children in
-      let a = and_parts (h is assignment) _ g in
-      let b = and_parts (first_is name_pattern children) _ a.1 in
-      let c = and_parts (not (first_acts by (after children))) _ b.1 in
-      let d = and_parts (permitted by.config p false) _ c.1 in
-      let e = and_parts (not (retained by.config n)) _ d.1 in
-      let f = and_parts (by.declares n) _ e.1 in
-      record { kind = eqb-true h.kind assignment a.0; free = f.1 }
+  yields_means g = record { kind = grind (arith, nat_tests); free = grind arith }
 
   unwraps_means : call_unwraps h children ≡ true → Unwrapped h children
-  unwraps_means g =
-      let a = and_parts (h is call_expression) _ g in
-      record { kind = eqb-true h.kind call_expression a.0; wraps = a.1 }
+  unwraps_means g = record { kind = grind (arith, nat_tests); wraps = grind arith }
 
   pub means : Means by p h found children (verdict by p h found children)
   means =
@@ -188,13 +153,7 @@ with_kind h k = record { number = h.number; kind = k; flags = h.flags; symbol = 
 
 -- a fact on a record that has a list, by its kind
 pub by_list : (P : Head → Type 0) (h : Head) → has_list h ≡ true → P (with_kind h module_root) → P (with_kind h script_root) → P (with_kind h block) → P h
-by_list P h g x y z = each_member (λ (k : ℕ). P (with_kind h k)) h.kind (module_root ∷ script_root ∷ block ∷ []) (x, (y, (z, tt))) (listed (h is module_root) (h is script_root) (h is block) g)
-  where
-    listed : (a b c : Bool) → (a || (b || c)) ≡ true → (a || (b || (c || false))) ≡ true
-    listed true b c g = refl
-    listed false true c g = refl
-    listed false false true g = refl
-    listed false false false g = g
+by_list P h g x y z = each_member (λ (k : ℕ). P (with_kind h k)) h.kind (module_root ∷ script_root ∷ block ∷ []) (x, (y, (z, tt))) (grind arith)
 
 -- WRAPPED OBJECTS
 
@@ -214,19 +173,10 @@ pub wraps : (c : Chain) → wraps_object c ≡ true → Wraps c
 wraps c g =
     let fn = below c in
     let statements = below (below fn) in
-    let a = and_parts (first_is function_expression c) _ g in
-    let b = and_parts (eqb (first_symbol c) 0) _ a.1 in
-    let d = and_parts (is_end (after c)) _ b.1 in
-    let e = and_parts (not (first_flagged fn)) _ d.1 in
-    let f = and_parts (first_is block (below fn)) _ e.1 in
-    let i = and_parts (first_is plain_statement statements) _ f.1 in
-    let j = and_parts (first_flagged statements) _ i.1 in
-    let k = and_parts (is_end (after statements)) _ j.1 in
-    let l = and_parts (first_is object (below statements)) _ k.1 in
     record {
-      callee = first_is_kind function_expression c a.0;
-      block = first_is_kind block (below fn) f.0;
-      return = first_is_kind plain_statement statements i.0;
-      object = first_is_kind object (below statements) l.0;
-      names = l.1;
+      callee = first_is_kind function_expression c (grind arith);
+      block = first_is_kind block (below fn) (grind arith);
+      return = first_is_kind plain_statement statements (grind arith);
+      object = first_is_kind object (below statements) (grind arith);
+      names = grind arith;
     }

@@ -7,8 +7,9 @@
 --   walk_visits                          a walk adds the records of its chain
 --   walk_same, opened, closed            the walk without its fuel
 use Rattle.std.specs.Prelude.{if◌then◌else◌}
-use Rattle.std.proofs.Common.{◌≡◌, ℕ, zero, suc, ◌≤◌, Bool, true, false, not, ◌||◌, eqb, ltb, List, ◌∷◌, sym, refl, ap, ◌∙◌, subst, ⊎_elim, arith}
-use Rattle.std.proofs.lemmas.Bool.{cases_Bool, ltb-false, le-ltb, or_parts, or_from, eqb-true, eqb-false, not-false}
+use Rattle.std.proofs.Common.{◌≡◌, ℕ, zero, suc, ◌≤◌, Bool, true, false, not, ◌||◌, eqb, ltb, List, ◌∷◌, sym, refl, ap, ◌∙◌, subst, arith}
+use Rattle.std.proofs.lemmas.Bool.{eqb-true, eqb-false}
+use Rattle.std.proofs.lemmas.Bool.Decides.{nat_tests}
 use Rattle.rules.specs.Tree.Chain.{end, link}
 use Rattle.rules.specs.Kinds.{member}
 use Rattle.rules.specs.Grammar.{Way, words_fit, children_of, step, misplaced, may_end}
@@ -21,7 +22,7 @@ use Rattle.rules.proofs.Sizes.{free, free_most, free_mono, free_cons, visited, v
 
 pub then_fine : {A B : Type 0} (o : Outcome A) (f : A → Outcome B) (b : B) → and_then o f ≡ fine b → (a : A) × (o ≡ fine a) × (f a ≡ fine b)
 then_fine (fine a) f b e = (a, refl, e)
-then_fine (refused number at) f b e = let z : ◌≡◌ {A = ℕ} 0 1 = cc in absurd (omega arith)
+then_fine (refused number at) f b e = cc
 
 then_same : {A B : Type 0} (o p : Outcome A) (f g : A → Outcome B) → o ≡ p → ((a : A) → o ≡ fine a → f a ≡ g a) → and_then o f ≡ and_then p g
 then_same (fine a) p f g e h = h a refl ∙ ap (λ (x : Outcome _). and_then x g) e
@@ -38,9 +39,9 @@ pub record Placed (words : List ℕ) (n nesting : ℕ) (ways : List Way) (before
 took : {A : Type 0} (b c d : Bool) (n : ℕ) (o p : A) →
     (if b then refused bad_link n else if c then refused too_deep n else if d then refused bad_record n else fine o) ≡ fine p →
     (b ≡ false) × (c ≡ false) × (d ≡ false) × (o ≡ p)
-took true c d n o p e = let z : ◌≡◌ {A = ℕ} 0 1 = cc in absurd (omega arith)
-took false true d n o p e = let z : ◌≡◌ {A = ℕ} 0 1 = cc in absurd (omega arith)
-took false false true n o p e = let z : ◌≡◌ {A = ℕ} 0 1 = cc in absurd (omega arith)
+took true c d n o p e = cc
+took false true d n o p e = cc
+took false false true n o p e = cc
 took false false false n o p e = (refl, refl, refl, cc)
 
 pub take_fine : (words : List ℕ) (n nesting : ℕ) (ways : List Way) (before : List ℕ) (onward : List Way) →
@@ -49,25 +50,11 @@ take_fine words n nesting ways before onward e =
     let misfit = misplaced (step (head_at words n).kind ways) in
     let t = took (ltb (records words) n || member n before) (ltb most_nesting nesting) (misfit || not (words_fit (head_at words n))) n
     (step (head_at words n).kind ways) onward e in
-    let p = or_parts (ltb (records words) n) (member n before) t.0 in
-    let q = or_parts misfit (not (words_fit (head_at words n))) t.2 in (
-      record {
-        within = ltb-false (records words) n p.0;
-        new = p.1;
-        level = ltb-false most_nesting nesting t.1;
-        placed = q.0;
-        fit = not-false (words_fit (head_at words n)) q.1;
-      },
-      t.3,
-    )
+    (record { within = grind (arith, nat_tests); new = grind arith; level = grind (arith, nat_tests); placed = grind arith; fit = grind arith }, t.3)
 
 pub placed_taken : (words : List ℕ) (n nesting : ℕ) (ways : List Way) (before : List ℕ) → Placed words n nesting ways before →
     take words n nesting ways before ≡ fine (step (head_at words n).kind ways)
-placed_taken words n nesting ways before p =
-    let a = or_from (ltb (records words) n) (member n before) (le-ltb (records words) n p.within) p.new in
-    let b = le-ltb most_nesting nesting p.level in
-    let c = or_from (misplaced (step (head_at words n).kind ways)) (not (words_fit (head_at words n))) p.placed (ap not p.fit) in
-    rw (a, b, c)
+placed_taken words n nesting ways before p = grind (arith, nat_tests)
 
 -- a turn of the walk, by the result of its test
 abbrev turn : Bool → List ℕ → (left n nesting : ℕ) → List Way → (parent : ℕ) → (reached : List ℕ) → Outcome Read
@@ -104,18 +91,18 @@ Walks words P left = (n nesting : ℕ) (ways : List Way) (parent : ℕ) (before 
 stopped : (b : Bool) (before : List ℕ) (x y : ℕ) (r : Read) → (if b then fine (record { chain = end; reached = before }) else refused x y) ≡ fine r →
     (b ≡ true) × (◌≡◌ {A = Read} (record { chain = end; reached = before }) r)
 stopped true before x y r e = (refl, cc)
-stopped false before x y r e = let z : ◌≡◌ {A = ℕ} 0 1 = cc in absurd (omega arith)
+stopped false before x y r e = cc
 
 stop_has : (P : Said) → AtEnd P → (n nesting : ℕ) (ways : List Way) (parent : ℕ) (before : List ℕ) (r : Read) → n ≡ 0 →
     stop ways parent before ≡ fine r → P n nesting ways before r
 stop_has P ends n nesting ways parent before r z e =
     let s = stopped (may_end ways) before bad_record parent r e in
-    subst (λ (q : Read). P n nesting ways before q) s.1 (ends n nesting ways before z s.0)
+    rw s.1 at (ends n nesting ways before z s.0)
 
 none_has : (P : Said) → AtEnd P → (b : Bool) (n nesting : ℕ) (ways : List Way) (parent : ℕ) (before : List ℕ) (r : Read) → eqb n 0 ≡ b →
     (if b then stop ways parent before else refused bad_link n) ≡ fine r → P n nesting ways before r
 none_has P ends true n nesting ways parent before r z e = stop_has P ends n nesting ways parent before r (eqb-true n 0 z) e
-none_has P ends false n nesting ways parent before r z e = let y : ◌≡◌ {A = ℕ} 0 1 = cc in absurd (omega arith)
+none_has P ends false n nesting ways parent before r z e = cc
 
 turn_has : (words : List ℕ) (P : Said) → AtEnd P → AtRecord words P → (b : Bool) (left n nesting : ℕ) (ways : List Way) (parent : ℕ) (before : List ℕ) (r : Read) →
     eqb n 0 ≡ b → Walks words P left → turn b words left n nesting ways parent before ≡ fine r → P n nesting ways before r
@@ -126,7 +113,7 @@ turn_has words P ends goes false left n nesting ways parent before r z ih e =
     let s = then_fine (walk words left (next words n) nesting p.0 parent q.0.reached) _ r q.2 in
     let t = take_fine words n nesting ways before p.0 p.1 in
     let is : ◌≡◌ {A = Read} (record { chain = link (head_at words n) q.0.chain s.0.chain; reached = s.0.reached }) r = cc s.2 in
-    subst (λ (x : Read). P n nesting ways before x) is
+    rw is at
     (goes n nesting ways before q.0 s.0 (omega (arith, eqb-false n 0 z)) t.0
     (ih (first_child words n) (suc nesting) (children_of (head_at words n)) n (n ∷ before) q.0 q.1)
     (subst (λ (w : List Way). P (next words n) nesting w q.0.reached s.0) (sym t.1)
@@ -150,19 +137,13 @@ walk_visits words left = walk_induction words Visits
 walk_frees : (words : List ℕ) (left n nesting : ℕ) (ways : List Way) (parent : ℕ) (before : List ℕ) (r : Read) →
     walk words left n nesting ways parent before ≡ fine r → free (records words) r.reached ≤ free (records words) before
 walk_frees words left n nesting ways parent before r e =
-    free_mono (records words) before r.reached (λ j m.
-    subst (λ (l : List ℕ). member j l ≡ true) (sym (walk_visits words left n nesting ways parent before r e)) (visited_keeps r.chain before j m))
+    free_mono (records words) before r.reached
+    (λ j m. rw (walk_visits words left n nesting ways parent before r e) (visited_keeps r.chain before j m))
 
 -- where no record is free, none is taken
 take_none : (words : List ℕ) (n nesting : ℕ) (ways : List Way) (before : List ℕ) → 1 ≤ n → free (records words) before ≤ 0 →
     take words n nesting ways before ≡ refused bad_link n
-take_none words n nesting ways before l h =
-    ⊎_elim
-    (λ (e : (ltb (records words) n || member n before) ≡ true). rw e)
-    (λ (e : (ltb (records words) n || member n before) ≡ false).
-    let p = or_parts (ltb (records words) n) (member n before) e in
-    absurd (omega (arith, free_cons (records words) n before l (ltb-false (records words) n p.0) p.1)))
-    (cases_Bool (ltb (records words) n || member n before))
+take_none words n nesting ways before l h = grind (arith, nat_tests, free_cons (records words) n before l)
 
 -- two fuels give the same walks where both suffice
 abbrev Same : List ℕ → ℕ → ℕ → Type 0

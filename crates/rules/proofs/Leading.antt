@@ -1,8 +1,9 @@
 -- `leads` decides whether edges lead from one name to another, and `component` who shares a component.
 -- Sound: each look adds only the ends of edges that leave what is found. Complete: a look that adds nothing has shut the set, and one
 -- that adds something leaves fewer edges whose end is missing, of which there are at most as many as looks.
-use Rattle.std.proofs.Common.{◌≡◌, ℕ, ◌+◌, ◌<◌, ◌≤◌, Bool, true, false, cond, not, ◌&&◌, List, [], ◌∷◌, length, sym, refl, ap, ◌∙◌, subst, inl, inr, ⊎_elim, arith}
-use Rattle.std.proofs.lemmas.Bool.{cond_both, and_parts, and_from, both_ways, or_cases, or_parts, or_left, or_right, cases_Bool, not-true}
+use Rattle.std.proofs.Common.{◌≡◌, ℕ, ◌+◌, ◌<◌, ◌≤◌, Bool, true, false, not, ◌&&◌, List, [], ◌∷◌, length, sym, refl, ap, ◌∙◌, inl, inr, ⊎_elim, arith}
+use Rattle.std.proofs.lemmas.Bool.{cond_both, and_parts, and_from, both_ways, or_cases, or_left, cases_Bool}
+use Rattle.std.proofs.lemmas.Map.Views.{any-filter_same}
 use Rattle.rules.specs.Tree.{Name}
 use Rattle.rules.specs.Names.{same, among}
 use Rattle.rules.specs.Tables.{EdgeRow, some_row}
@@ -10,12 +11,12 @@ use Rattle.rules.specs.Rings.{Edge, Leads, along, looks, reach, leads, leading_t
 use Rattle.rules.specs.Rings.Leads.{here, onward}
 use Rattle.rules.specs.Reaching.{LeadsTold, ComponentTold}
 use Rattle.rules.proofs.SameNames.{same_eq, same_refl}
+use Rattle.rules.proofs.Sizes.{unless, unless_most, unless_mono}
 
 -- what is found stays found
 pub along_keeps : (n : Name) (es : List EdgeRow) (ns : List Name) → among n ns ≡ true → among n (along es ns) ≡ true
 along_keeps n [] ns h = h
-along_keeps n (e ∷ es) ns h = cond_both (among e.from ns && not (among e.to ns)) (along es (e.to ∷ ns)) (along es ns) (λ (l : List Name). among n l ≡ true)
-    (λ _. along_keeps n es (e.to ∷ ns) (or_right (same n e.to) (among n ns) h)) (λ _. along_keeps n es ns h)
+along_keeps n (e ∷ es) ns h = grind (arith, along_keeps n es (e.to ∷ ns), along_keeps n es ns)
 
 pub looks_keeps : (n : Name) (xs es : List EdgeRow) (ns : List Name) → among n ns ≡ true → among n (looks xs es ns) ≡ true
 looks_keeps n [] es ns h = h
@@ -26,7 +27,7 @@ abbrev All : List EdgeRow → Name → List Name → Type 0
 All es a ns = (n : Name) → among n ns ≡ true → Leads es a n
 
 all_cons : (es : List EdgeRow) (a m : Name) (ns : List Name) → Leads es a m → All es a ns → All es a (m ∷ ns)
-all_cons es a m ns l f n x = ⊎_elim (λ y. subst (λ (k : Name). Leads es a k) (sym (same_eq n m y)) l) (f n) (or_cases (same n m) (among n ns) x)
+all_cons es a m ns l f n x = ⊎_elim (λ y. rw (same_eq n m y) l) (f n) (or_cases (same n m) (among n ns) x)
 
 -- `xs` are edges of `es`
 abbrev Part : List EdgeRow → List EdgeRow → Type 0
@@ -54,23 +55,19 @@ open_edge ns e = among e.from ns && not (among e.to ns)
 
 abbrev missing : List EdgeRow → List Name → ℕ
 missing [] ns = 0
-missing (e ∷ es) ns = cond (among e.to ns) 0 1 + missing es ns
+missing (e ∷ es) ns = unless (among e.to ns) + missing es ns
+
+-- the end of an edge that does not leave the set
+end_among : (ns : List Name) (e : EdgeRow) (b c : Name) → (b ≡ e.from) × (c ≡ e.to) → open_edge ns e ≡ false → among b ns ≡ true → among c ns ≡ true
+end_among ns e b c z g y = grind arith
 
 shut_none : (es : List EdgeRow) (ns : List Name) → some_row (open_edge ns) es ≡ false → Shut es ns
 shut_none [] ns g b c x y = absurd x
-shut_none (e ∷ es) ns g b c x y =
-    let q = or_parts (open_edge ns e) (some_row (open_edge ns) es) g in
-    ⊎_elim
-    (λ z. ⊎_elim (λ u. subst (λ (k : Name). among k ns ≡ true) (sym z.1) u)
-    (λ u. absurd (both_ways (open_edge ns e) q.0 (and_from (among e.from ns) (not (among e.to ns)) (subst (λ (k : Name). among k ns ≡ true) z.0 y) (ap not u))))
-    (cases_Bool (among e.to ns)))
-    (λ z. shut_none es ns q.1 b c z y) x
+shut_none (e ∷ es) ns g b c x y = grind (arith, shut_none es ns)
 
 along_none : (xs : List EdgeRow) (ns : List Name) → some_row (open_edge ns) xs ≡ false → along xs ns ≡ ns
 along_none [] ns g = refl
-along_none (e ∷ xs) ns g = let q = or_parts (open_edge ns e) (some_row (open_edge ns) xs) g in
-    cond_both (among e.from ns && not (among e.to ns)) (along xs (e.to ∷ ns)) (along xs ns) (λ (l : List Name). l ≡ ns)
-    (λ x. absurd (both_ways (open_edge ns e) q.0 x)) (λ _. along_none xs ns q.1)
+along_none (e ∷ xs) ns g = grind (arith, along_none xs ns)
 
 looks_none : (es xs : List EdgeRow) (ns : List Name) → some_row (open_edge ns) es ≡ false → looks xs es ns ≡ ns
 looks_none es [] ns g = refl
@@ -79,61 +76,32 @@ looks_none es (x ∷ xs) ns g = ap (λ (l : List Name). looks xs es l) (along_no
 -- a round reaches the end of every edge that leaves the set
 along_takes : (xs : List EdgeRow) (ns : List Name) (b c : Name) → Edge xs b c → among b ns ≡ true → among c (along xs ns) ≡ true
 along_takes [] ns b c x y = absurd x
-along_takes (e ∷ xs) ns b c x y = cond_both (among e.from ns && not (among e.to ns)) (along xs (e.to ∷ ns)) (along xs ns) (λ (l : List Name). among c l ≡ true)
-    (λ _. ⊎_elim
-    (λ z. along_keeps c xs (e.to ∷ ns) (or_left (same c e.to) (among c ns) (subst (λ (k : Name). same k e.to ≡ true) (sym z.1) (same_refl e.to))))
-    (λ z. along_takes xs (e.to ∷ ns) b c z (or_right (same b e.to) (among b ns) y)) x)
-    (λ g. ⊎_elim
-    (λ z. along_keeps c xs ns (⊎_elim (λ u. subst (λ (k : Name). among k ns ≡ true) (sym z.1) u)
-    (λ u. absurd (both_ways (open_edge ns e) g (and_from (among e.from ns) (not (among e.to ns)) (subst (λ (k : Name). among k ns ≡ true) z.0 y) (ap not u))))
-    (cases_Bool (among e.to ns))))
-    (λ z. along_takes xs ns b c z y) x)
-
-is_one : (b : Bool) → b ≡ false → ◌≡◌ {A = ℕ} (cond b 0 1) 1
-is_one b e = rw e
-
-is_none : (b : Bool) → b ≡ true → ◌≡◌ {A = ℕ} (cond b 0 1) 0
-is_none b e = rw e
-
-one_less : (b c : Bool) → (b ≡ true → c ≡ true) → cond c 0 1 ≤ cond b 0 1
-one_less true true f = omega arith
-one_less true false f = absurd (both_ways false refl (f refl))
-one_less false true f = omega arith
-one_less false false f = omega arith
+along_takes (e ∷ xs) ns b c x y =
+    grind (arith, along_takes xs (e.to ∷ ns) b c, along_takes xs ns b c, along_keeps c xs (e.to ∷ ns), along_keeps c xs ns, same_refl e.to)
 
 missing_less : (es : List EdgeRow) (ns ms : List Name) → ((n : Name) → among n ns ≡ true → among n ms ≡ true) → missing es ms ≤ missing es ns
 missing_less [] ns ms f = omega arith
-missing_less (e ∷ es) ns ms f = let x = one_less (among e.to ns) (among e.to ms) (f e.to) in let y = missing_less es ns ms f in omega arith
+missing_less (e ∷ es) ns ms f = omega (arith, unless_mono (among e.to ns) (among e.to ms) (f e.to), missing_less es ns ms f)
 
 missing_falls : (es : List EdgeRow) (ns ms : List Name) → ((n : Name) → among n ns ≡ true → among n ms ≡ true) → ((b c : Name) → Edge es b c → among b ns ≡ true → among c ms ≡ true)
     → some_row (open_edge ns) es ≡ true → missing es ms < missing es ns
 missing_falls [] ns ms f g x = absurd (both_ways false refl x)
-missing_falls (e ∷ es) ns ms f g x = ⊎_elim
-    (λ y.
-    let q = and_parts (among e.from ns) (not (among e.to ns)) y in
-    let a = is_one (among e.to ns) (not-true (among e.to ns) q.1) in
-    let b = is_none (among e.to ms) (g e.from e.to (inl (refl, refl)) q.0) in
-    let c = missing_less es ns ms f in omega arith)
-    (λ y. let a = one_less (among e.to ns) (among e.to ms) (f e.to) in let b = missing_falls es ns ms f (λ p q z. g p q (inr z)) y in omega arith)
-    (or_cases (open_edge ns e) (some_row (open_edge ns) es) x)
+missing_falls (e ∷ es) ns ms f g x = grind (arith, missing_falls es ns ms f (λ b c z. g b c (inr z)), missing_less es ns ms f, unless_mono (among e.to ns) (among e.to ms) (f e.to), g e.from e.to (inl (refl, refl)))
 
 missing_none : (es : List EdgeRow) (ns : List Name) → missing es ns ≤ 0 → (b c : Name) → Edge es b c → among c ns ≡ true
 missing_none [] ns h b c x = absurd x
-missing_none (e ∷ es) ns h b c x = ⊎_elim
-    (λ z. ⊎_elim (λ u. subst (λ (k : Name). among k ns ≡ true) (sym z.1) u)
-    (λ u. let a = is_one (among e.to ns) u in absurd (omega arith)) (cases_Bool (among e.to ns)))
-    (λ z. missing_none es ns (omega arith) b c z) x
+missing_none (e ∷ es) ns h b c x = grind (arith, missing_none es ns (omega arith) b c)
 
 looks_shut : (es xs : List EdgeRow) (ns : List Name) → missing es ns ≤ length xs → Shut es (looks xs es ns)
 looks_shut es [] ns h = λ b c x y. missing_none es ns h b c x
 looks_shut es (w ∷ xs) ns h = ⊎_elim
-    (λ g. looks_shut es xs (along es ns) (let k = missing_falls es ns (along es ns) (λ n. along_keeps n es ns) (along_takes es ns) g in omega arith))
-    (λ g. subst (λ (l : List Name). Shut es l) (sym (looks_none es (w ∷ xs) ns g)) (shut_none es ns g))
+    (λ g. looks_shut es xs (along es ns) (omega (arith, missing_falls es ns (along es ns) (λ n. along_keeps n es ns) (along_takes es ns) g)))
+    (λ g. rw (looks_none es (w ∷ xs) ns g) (shut_none es ns g))
     (cases_Bool (some_row (open_edge ns) es))
 
 missing_most : (es : List EdgeRow) (ns : List Name) → missing es ns ≤ length es
 missing_most [] ns = omega arith
-missing_most (e ∷ es) ns = let x = one_less false (among e.to ns) (λ y. absurd (both_ways false refl y)) in let y = missing_most es ns in omega arith
+missing_most (e ∷ es) ns = omega (arith, unless_most (among e.to ns), missing_most es ns)
 
 reached_found : (es : List EdgeRow) (a : Name) (ns : List Name) → among a ns ≡ true → Shut es ns → {b : Name} → Leads es a b → among b ns ≡ true
 reached_found es a ns g s here = g
@@ -145,25 +113,13 @@ leads_complete es a b l = reached_found es a (looks es es (a ∷ [])) (looks_kee
 pub leads_told : LeadsTold
 leads_told es a b = (leads_sound es a b, leads_complete es a b)
 
--- a name is kept among those that lead to n exactly if it does
-leading_kept : (es : List EdgeRow) (n b : Name) (ms : List Name) → among b ms ≡ true → leads es b n ≡ true → among b (leading_to es n ms) ≡ true
-leading_kept es n b [] h l = h
-leading_kept es n b (m ∷ ms) h l = cond_both (leads es m n) (m ∷ leading_to es n ms) (leading_to es n ms) (λ (k : List Name). among b k ≡ true)
-    (λ _. ⊎_elim (λ y. or_left (same b m) (among b (leading_to es n ms)) y) (λ y. or_right (same b m) (among b (leading_to es n ms)) (leading_kept es n b ms y l)) (or_cases (same b m) (among b ms) h))
-    (λ g. ⊎_elim (λ y. absurd (both_ways (leads es m n) g (subst (λ (k : Name). leads es k n ≡ true) (same_eq b m y) l))) (λ y. leading_kept es n b ms y l) (or_cases (same b m) (among b ms) h))
-
-leading_those : (es : List EdgeRow) (n b : Name) (ms : List Name) → among b (leading_to es n ms) ≡ true → (among b ms ≡ true) × (leads es b n ≡ true)
-leading_those es n b [] = λ h. absurd (both_ways false refl h)
-leading_those es n b (m ∷ ms) =
-    cond_both (leads es m n) (m ∷ leading_to es n ms) (leading_to es n ms) (λ (k : List Name). among b k ≡ true → (among b (m ∷ ms) ≡ true) × (leads es b n ≡ true))
-    (λ g h. ⊎_elim
-    (λ y. (or_left (same b m) (among b ms) y, subst (λ (k : Name). leads es k n ≡ true) (sym (same_eq b m y)) g))
-    (λ y. let r = leading_those es n b ms y in (or_right (same b m) (among b ms) r.0, r.1))
-    (or_cases (same b m) (among b (leading_to es n ms)) h))
-    (λ _ h. let r = leading_those es n b ms h in (or_right (same b m) (among b ms) r.0, r.1))
+-- the names that lead to n are found among some exactly as those do
+leading_found : (es : List EdgeRow) (n b : Name) (ms : List Name) → among b (leading_to es n ms) ≡ (leads es b n && among b ms)
+leading_found es n b = any-filter_same (same b) (λ m. leads es m n) (leads es b n) (λ m y. rw (same_eq b m y))
 
 pub component_told : ComponentTold
-component_told es a b = (
-  (λ h. let r = leading_those es a b (reach es a) h in (leads_sound es a b r.0, leads_sound es b a r.1)),
-  (λ l. leading_kept es a b (reach es a) (leads_complete es a b l.0) (leads_complete es b a l.1)),
-)
+component_told es a b =
+    let found = leading_found es a b (reach es a) in (
+      (λ h. let r = and_parts (leads es b a) (leads es a b) (sym found ∙ h) in (leads_sound es a b r.1, leads_sound es b a r.0)),
+      (λ l. found ∙ and_from (leads es b a) (leads es a b) (leads_complete es b a l.1) (leads_complete es a b l.0)),
+    )

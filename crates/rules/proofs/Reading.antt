@@ -6,7 +6,7 @@
 --   tree_end, whole_end                            the link 0
 --   opens, stands_opens                            the link to a record
 --   level_depth, tree_depth                        how deep a checked tree is
-use Rattle.std.proofs.Common.{◌≡◌, ℕ, zero, suc, ◌+◌, ◌≤◌, max, true, List, sym, refl, ap, ◌∙◌, subst, ap₂, ⊎_elim, arith}
+use Rattle.std.proofs.Common.{◌≡◌, ℕ, zero, suc, ◌+◌, ◌≤◌, max, true, List, sym, refl, ap, ◌∙◌, ap₂, ⊎_elim, arith}
 use Rattle.std.proofs.lemmas.Bool.{cases_eq, eq-eqb, ne_eqb}
 use Rattle.rules.specs.Tree.{Chain, reached}
 use Rattle.rules.specs.Tree.Chain.{end, link}
@@ -44,7 +44,7 @@ pub read_back : ReadBack
 unfolding tree_of Whole
 read_back words n c holds apart =
     let e : tree_of words n ≡ c = chain_read c words (records words) n holds (size_most words n c holds apart) in
-    (e, subst (λ (d : Chain). Holds words n d) (sym e) holds)
+    (e, rw e holds)
 
 pub tree_is_read : TreeIsRead
 tree_is_read words c e = let t = check_sound words c e in read_back words 1 c t.holds t.apart
@@ -55,16 +55,14 @@ tree_end words n z = chain_end words (records words) n z
 
 pub whole_end : (words : List ℕ) (n : ℕ) → n ≡ 0 → Whole words n
 unfolding Whole
-whole_end words n z = subst (λ (c : Chain). Holds words n c) (sym (tree_end words n z)) z
+whole_end words n z = rw (tree_end words n z) z
 
 -- the two links of a chain that was read
 linked : (words : List ℕ) (left n : ℕ) → 1 ≤ n → Holds words n (chain_of words (suc left) n) →
     (stands words n ≡ true) × Holds words (first_child words n) (chain_of words left (first_child words n))
     × Holds words (next words n) (chain_of words left (next words n))
 linked words left n l holds =
-    let h : Holds words n (link (head_at words n) (chain_of words left (first_child words n)) (chain_of words left (next words n)))
-    = subst (λ (c : Chain). Holds words n c) (chain_link words left n l) holds in
-    (h.0, h.2, h.3)
+    let h = rw (chain_link words left n l) at holds in (h.0, h.2, h.3)
 
 -- more fuel reads the same where the words hold what was read
 chain_more : (words : List ℕ) (left n : ℕ) → Holds words n (chain_of words left n) → chain_of words (suc left) n ≡ chain_of words left n
@@ -76,9 +74,7 @@ chain_more words (suc left) n holds =
     (λ (z : n ≡ 0 → ⊥).
     let l : 1 ≤ n = omega arith in
     let h = linked words left n l holds in
-    chain_link words (suc left) n l
-    ∙ ap₂ (λ (children rest : Chain). link (head_at words n) children rest) (chain_more words left (first_child words n) h.1) (chain_more words left (next words n) h.2)
-    ∙ sym (chain_link words left n l))
+    cc (chain_link words (suc left) n l, chain_link words left n l, chain_more words left (first_child words n) h.1, chain_more words left (next words n) h.2))
     (cases_eq n 0)
 
 -- the chain at a record, with this fuel
@@ -99,8 +95,8 @@ opens_with words (suc left) n e l holds =
     record {
       standing = h.0;
       is = is;
-      children = subst (λ (c : Chain). Holds words (first_child words n) c) (sym a) h.1;
-      rest = subst (λ (c : Chain). Holds words (next words n) c) (sym b) h.2;
+      children = rw a h.1;
+      rest = rw b h.2;
       deeper = omega arith;
       level = omega arith;
       shorter = omega arith;

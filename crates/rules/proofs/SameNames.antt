@@ -1,4 +1,5 @@
 -- Two names are one exactly if the test says so.
+use Rattle.std.specs.Cmp.{IsEquivalence, decided}
 use Rattle.std.proofs.Common.{◌≡◌, true, eqb, refl}
 use Rattle.std.proofs.lemmas.Bool.{and_parts, and_from, eqb-true, eq-eqb}
 use Rattle.rules.specs.Tree.{Name}
@@ -13,3 +14,7 @@ same_eq a b h =
 
 pub same_refl : (a : Name) → same a a ≡ true
 same_refl a = and_from _ _ (eq-eqb a.symbol a.symbol refl) (eq-eqb a.mark a.mark refl)
+
+-- so it is an equivalence
+pub same_laws : IsEquivalence same
+same_laws = decided same (λ a b. (same_eq a b, λ e. rw e (same_refl b)))

@@ -1,17 +1,19 @@
 -- How many records are left to reach. A chain with each record once adds each of its records to those reached,
 -- and every record added leaves one fewer free: so a chain that the words hold has no more records than they have room for.
 --
+--   unless, unless_most, unless_mono               1 where a test fails
 --   free, free_most, free_mono, free_cons          how many of the first records are not in a list
---   visited, visited_keeps, visited_has, visited_from      the records reached after a chain
+--   visited, visited_keeps, first_reached, visited_has, visited_from      the records reached after a chain
 --   Fresh, fresh_children, fresh_rest              no record of the chain was reached before
 --   stands_within, stands_positive                 a record that stands has a number in range
 --   size_most                                      the bound
-use Rattle.std.proofs.Common.{◌≡◌, ℕ, zero, suc, ◌+◌, ◌≤◌, Bool, true, false, ◌||◌, eqb, leb, ◌⊎◌, List, [], ◌∷◌, sym, refl, ap, subst, inl, inr, ⊎_elim, arith}
-use Rattle.std.proofs.lemmas.Bool.{cases_eq, cases_Bool, both_ways, eq-eqb, ne_eqb, eqb-true, leb-true, or_right, or_left, or_from, or_cases, and_parts}
+use Rattle.std.proofs.Common.{◌≡◌, ℕ, zero, suc, ◌+◌, ◌≤◌, Bool, true, false, eqb, ◌⊎◌, List, [], ◌∷◌, refl, ap, inl, inr, arith}
+use Rattle.std.proofs.lemmas.Bool.{eq-eqb, or_right, or_left}
+use Rattle.std.proofs.lemmas.Bool.Decides.{nat_tests}
 use Rattle.rules.specs.Tree.{Head, Chain, reached}
 use Rattle.rules.specs.Tree.Chain.{end, link}
-use Rattle.rules.specs.Kinds.{member, within, known}
-use Rattle.rules.specs.Words.{records, word, stands, first_child, next, Holds}
+use Rattle.rules.specs.Kinds.{member}
+use Rattle.rules.specs.Words.{records, stands, first_child, next, Holds}
 use Rattle.rules.specs.Held.{Numbers, Apart}
 
 -- 1 where a test fails
@@ -24,14 +26,11 @@ abbrev pub free : ℕ → List ℕ → ℕ
 free zero r = 0
 free (suc k) r = unless (member (suc k) r) + free k r
 
-unless_most : (b : Bool) → unless b ≤ 1
-unless_most true = omega arith
-unless_most false = omega arith
+pub unless_most : (b : Bool) → unless b ≤ 1
+unless_most b = grind arith
 
-unless_mono : (a b : Bool) → (a ≡ true → b ≡ true) → unless b ≤ unless a
-unless_mono true true h = omega arith
-unless_mono true false h = let z : ◌≡◌ {A = ℕ} 0 1 = ap unless (sym (h refl)) in omega arith
-unless_mono false b h = unless_most b
+pub unless_mono : (a b : Bool) → (a ≡ true → b ≡ true) → unless b ≤ unless a
+unless_mono a b h = grind arith
 
 pub free_most : (k : ℕ) (r : List ℕ) → free k r ≤ k
 free_most zero r = omega arith
@@ -43,16 +42,7 @@ free_mono (suc k) r s h = omega (arith, free_mono k r s h, unless_mono (member (
 
 pub free_cons : (k n : ℕ) (r : List ℕ) → 1 ≤ n → n ≤ k → member n r ≡ false → suc (free k (n ∷ r)) ≤ free k r
 free_cons zero n r l h m = absurd (omega arith)
-free_cons (suc k) n r l h m =
-    ⊎_elim
-    (λ (e : suc k ≡ n).
-    let a : unless (member (suc k) (n ∷ r)) ≡ 0 = ap unless (or_left (eqb (suc k) n) (member (suc k) r) (eq-eqb (suc k) n e)) in
-    let b : unless (member (suc k) r) ≡ 1 = ap unless (subst (λ (j : ℕ). member j r ≡ false) (sym e) m) in
-    omega (arith, free_mono k r (n ∷ r) (λ j q. or_right (eqb j n) (member j r) q)))
-    (λ (e : suc k ≡ n → ⊥).
-    let a : unless (member (suc k) (n ∷ r)) ≡ unless (member (suc k) r) = ap (λ (b : Bool). unless (b || member (suc k) r)) (ne_eqb (suc k) n e) in
-    omega (arith, free_cons k n r l (omega arith) m))
-    (cases_eq (suc k) n)
+free_cons (suc k) n r l h m = grind (arith, nat_tests, free_cons k n r l, free_mono k r (n ∷ r) (λ j q. or_right (eqb j n) (member j r) q))
 
 -- the records reached after a chain: each before its children, and these before what follows
 abbrev pub visited : Chain → List ℕ → List ℕ
@@ -66,34 +56,19 @@ visited_keeps (link h children rest) before x m =
     (visited_keeps children (h.number ∷ before) x (or_right (eqb x h.number) (member x before) m))
 
 -- the record that a chain begins with is reached
-first_reached : (n x : ℕ) (before : List ℕ) → x ≡ n → member x (n ∷ before) ≡ true
+pub first_reached : (n x : ℕ) (before : List ℕ) → x ≡ n → member x (n ∷ before) ≡ true
 first_reached n x before e = or_left (eqb x n) (member x before) (eq-eqb x n e)
 
 pub visited_has : (c : Chain) (before : List ℕ) (x : ℕ) → Numbers x c → member x (visited c before) ≡ true
 visited_has end before x i = absurd i
 visited_has (link h children rest) before x i =
     let after = visited children (h.number ∷ before) in
-    elim i [
-      | inl e ↦ visited_keeps rest after x (visited_keeps children (h.number ∷ before) x (first_reached h.number x before e))
-      | inr j ↦ elim j [
-        | inl k ↦ visited_keeps rest after x (visited_has children (h.number ∷ before) x k)
-        | inr k ↦ visited_has rest after x k
-      ]
-    ]
+    grind (arith, nat_tests, visited_keeps rest after x, visited_keeps children (h.number ∷ before) x, visited_has children (h.number ∷ before) x, visited_has rest after x)
 
 pub visited_from : (c : Chain) (before : List ℕ) (x : ℕ) → member x (visited c before) ≡ true → Numbers x c ⊎ (member x before ≡ true)
 visited_from end before x m = inr m
 visited_from (link h children rest) before x m =
-    elim (visited_from rest (visited children (h.number ∷ before)) x m) [
-      | inl j ↦ inl (inr (inr j))
-      | inr p ↦ elim (visited_from children (h.number ∷ before) x p) [
-        | inl i ↦ inl (inr (inl i))
-        | inr q ↦ elim (or_cases (eqb x h.number) (member x before) q) [
-          | inl e ↦ inl (inl (eqb-true x h.number e))
-          | inr r ↦ inr r
-        ]
-      ]
-    ]
+    grind (arith, nat_tests, visited_from rest (visited children (h.number ∷ before)) x m, visited_from children (h.number ∷ before) x)
 
 -- no record of the chain was reached before
 abbrev pub Fresh : Chain → List ℕ → Type 0
@@ -101,32 +76,18 @@ Fresh c before = (x : ℕ) → Numbers x c → member x before ≡ false
 
 pub fresh_children : (h : Head) (children rest : Chain) (before : List ℕ) → Apart (link h children rest) → Fresh (link h children rest) before →
     Fresh children (h.number ∷ before)
-fresh_children h children rest before apart fresh x i =
-    or_from (eqb x h.number) (member x before)
-    (ne_eqb x h.number (λ e. apart.0 (subst (λ (y : ℕ). Numbers y children) e i)))
-    (fresh x (inr (inl i)))
+fresh_children h children rest before apart fresh x i = grind (arith, nat_tests, fresh x)
 
 pub fresh_rest : (h : Head) (children rest : Chain) (before : List ℕ) → Apart (link h children rest) → Fresh (link h children rest) before →
     Fresh rest (visited children (h.number ∷ before))
 fresh_rest h children rest before apart fresh x j =
-    elim (cases_Bool (member x (visited children (h.number ∷ before)))) [
-      | inr e ↦ e
-      | inl e ↦ elim (visited_from children (h.number ∷ before) x e) [
-        | inl i ↦ absurd (apart.2 x i j)
-        | inr m ↦ elim (or_cases (eqb x h.number) (member x before) m) [
-          | inl q ↦ absurd (apart.1 (subst (λ (y : ℕ). Numbers y rest) (eqb-true x h.number q) j))
-          | inr q ↦ absurd (both_ways (member x before) (fresh x (inr (inr j))) q)
-        ]
-      ]
-    ]
+    grind (arith, nat_tests, visited_from children (h.number ∷ before) x, apart.2 x, apart.1, fresh x)
 
 pub stands_positive : (words : List ℕ) (n : ℕ) → stands words n ≡ true → 1 ≤ n
-stands_positive words n s =
-    leb-true 1 n (and_parts (leb 1 n) (leb n (records words)) (and_parts (within 1 (records words) n) (known (word words n 0)) s).0).0
+stands_positive words n s = grind (arith, nat_tests)
 
 pub stands_within : (words : List ℕ) (n : ℕ) → stands words n ≡ true → n ≤ records words
-stands_within words n s =
-    leb-true n (records words) (and_parts (leb 1 n) (leb n (records words)) (and_parts (within 1 (records words) n) (known (word words n 0)) s).0).1
+stands_within words n s = grind (arith, nat_tests)
 
 -- a chain takes as many free records as it has
 uses : (c : Chain) (words : List ℕ) (n : ℕ) (before : List ℕ) → Holds words n c → Apart c → Fresh c before →

@@ -6,20 +6,21 @@
 --   chain_walked                                      what the words hold is read
 --   check_sound, check_complete, check_most           the theorems
 use Rattle.std.specs.Prelude.{if◌then◌else◌}
-use Rattle.std.proofs.Common.{◌≡◌, ℕ, suc, ◌≤◌, Bool, true, false, ◌&&◌, eqb, leb, List, [], ◌∷◌, length, sym, refl, ap, ◌∙◌, subst, inl, inr, arith}
-use Rattle.std.proofs.lemmas.Bool.{cases_Bool, both_ways, eq-eqb, ne_eqb, eqb-true, le-leb, or_right, or_left, or_parts, and_from, and_parts}
+use Rattle.std.proofs.Common.{◌≡◌, ℕ, suc, ◌≤◌, Bool, true, false, eqb, List, [], ◌∷◌, length, sym, refl, ap, ◌∙◌, subst, inl, inr, arith}
+use Rattle.std.proofs.lemmas.Bool.{false_from_ne_true, both_ways, eq-eqb, ne_eqb, eqb-true, or_right, or_parts}
+use Rattle.std.proofs.lemmas.Bool.Decides.{nat_tests}
 use Rattle.rules.specs.Tree.{Head, Chain}
 use Rattle.rules.specs.Tree.Chain.{end, link}
-use Rattle.rules.specs.Kinds.{member, within, known}
-use Rattle.rules.specs.Grammar.{Way, flags_fit, name_fits, children_of, step, root}
+use Rattle.rules.specs.Kinds.{member}
+use Rattle.rules.specs.Grammar.{Way, children_of, step, root}
 use Rattle.rules.specs.Refusals.{Outcome, and_then, bad_lengths, bad_record}
 use Rattle.rules.specs.Refusals.Outcome.{fine, refused}
-use Rattle.rules.specs.Words.{records, word, head_at, stands, first_child, next, Holds}
+use Rattle.rules.specs.Words.{records, head_at, stands, first_child, next, Holds}
 use Rattle.rules.specs.Check.{Read, walk, tree_fits}
-use Rattle.rules.specs.Held.{Numbers, Apart, Level, Formed, Tree}
+use Rattle.rules.specs.Held.{Numbers, Apart, Level, Formed}
 use Rattle.rules.specs.Walks.{full}
 use Rattle.rules.specs.Facts.{CheckSound, CheckComplete, CheckMost}
-use Rattle.rules.proofs.Sizes.{visited, visited_keeps, visited_has, Fresh, fresh_children, fresh_rest, stands_within, stands_positive, size_most}
+use Rattle.rules.proofs.Sizes.{first_reached, visited, visited_keeps, visited_has, Fresh, fresh_children, fresh_rest, stands_within, stands_positive, size_most}
 use Rattle.rules.proofs.Fuel.{then_fine, Placed, placed_taken, AtEnd, AtRecord, Walks, walk_induction, opened, closed}
 
 -- what a walk reads
@@ -36,19 +37,15 @@ good_end words n nesting ways before z e =
     record { holds = z; level = tt; formed = e; apart = tt; fresh = λ x i. absurd i; visits = refl }
 
 placed_stands : (words : List ℕ) (n nesting : ℕ) (ways : List Way) (before : List ℕ) → 1 ≤ n → Placed words n nesting ways before → stands words n ≡ true
-placed_stands words n nesting ways before l p =
-    let h = head_at words n in
-    and_from (within 1 (records words) n) (known (word words n 0))
-    (and_from (leb 1 n) (leb n (records words)) (le-leb 1 n l) (le-leb n (records words) p.within))
-    (and_parts (known h.kind) (flags_fit h) (and_parts (known h.kind && flags_fit h) (name_fits h) p.fit).0).0
+placed_stands words n nesting ways before l p = grind (arith, nat_tests, p.within, p.fit)
 
 good_record : (words : List ℕ) → AtRecord words (Good words)
 good_record words n nesting ways before below rest l p g h =
-    let self : member n (n ∷ before) ≡ true = or_left (eqb n n) (member n before) (eq-eqb n n refl) in
+    let self = first_reached n n before refl in
     let kept : (x : ℕ) → member x (n ∷ before) ≡ true → member x below.reached ≡ true
-    = λ x m. subst (λ (list : List ℕ). member x list ≡ true) (sym g.visits) (visited_keeps below.chain (n ∷ before) x m) in
+    = λ x m. rw g.visits (visited_keeps below.chain (n ∷ before) x m) in
     let has : (x : ℕ) → Numbers x below.chain → member x below.reached ≡ true
-    = λ x i. subst (λ (list : List ℕ). member x list ≡ true) (sym g.visits) (visited_has below.chain (n ∷ before) x i) in
+    = λ x i. rw g.visits (visited_has below.chain (n ∷ before) x i) in
     record {
       holds = (placed_stands words n nesting ways before l p, refl, g.holds, h.holds);
       level = (p.level, g.level, h.level);
@@ -61,13 +58,11 @@ good_record words n nesting ways before below rest l p g h =
         h.apart,
       );
       fresh = λ x s. elim s [
-        | inl e ↦ subst (λ (y : ℕ). member y before ≡ false) (sym e) p.new
+        | inl e ↦ rw e p.new
         | inr t ↦ elim t [
           | inl i ↦ (or_parts (eqb x n) (member x before) (g.fresh x i)).1
-          | inr j ↦ elim (cases_Bool (member x before)) [
-            | inl e ↦ absurd (both_ways (member x below.reached) (h.fresh x j) (kept x (or_right (eqb x n) (member x before) e)))
-            | inr e ↦ e
-          ]
+          | inr j ↦ false_from_ne_true (member x before)
+              (λ e. both_ways (member x below.reached) (h.fresh x j) (kept x (or_right (eqb x n) (member x before) e)))
         ]
       ];
       visits = h.visits ∙ ap (visited rest.chain) g.visits;
@@ -81,14 +76,14 @@ checks : (a b : Bool) (o : Outcome Read) (c : Chain) →
     (if a then (if b then and_then o (λ t. fine t.chain) else refused bad_record 1) else refused bad_lengths 0) ≡ fine c →
     (a ≡ true) × (b ≡ true) × ((r : Read) × (o ≡ fine r) × (r.chain ≡ c))
 checks true true o c e = let p = then_fine o _ c e in (refl, refl, (p.0, p.1, cc p.2))
-checks true false o c e = let y : ◌≡◌ {A = ℕ} 0 1 = cc in absurd (omega arith)
-checks false b o c e = let y : ◌≡◌ {A = ℕ} 0 1 = cc in absurd (omega arith)
+checks true false o c e = cc
+checks false b o c e = cc
 
 pub check_sound : CheckSound
 check_sound words c e =
     let k = checks (tree_fits (length words)) (eqb (next words 1) 0) (walk words (records words) 1 1 root 0 []) c e in
     let g = walk_good words (records words) 1 1 root 0 [] k.2.0 k.2.1 in
-    subst (λ (d : Chain). Tree words d) k.2.2
+    rw (← k.2.2)
     (record { fits = k.0; holds = g.holds; alone = eqb-true (next words 1) 0 k.1; apart = g.apart; level = g.level; formed = g.formed })
 
 pub check_most : CheckMost
