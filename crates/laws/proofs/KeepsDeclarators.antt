@@ -9,7 +9,7 @@
 --   kept_valued, restated_formed   one that stays although its name can go has a value; what a Var becomes has its child
 use Rattle.std.proofs.Common.{◌≡◌, Bool, true, false, List, [], ◌∷◌, sym, refl, subst, arith}
 use mathlib.Core.Bool.{or-false}
-use Rattle.std.proofs.lemmas.Bool.{cond_both, both_ways, and_parts, eqb-true}
+use Rattle.std.proofs.lemmas.Bool.{cond_both, eq-eqb, both_ways, and_parts, eqb-true}
 use Rattle.std.proofs.lemmas.Bool.Decides.{nat_tests}
 use Rattle.rules.specs.Tree.{Head, Chain, flagged, is_end, after, alone, append}
 use Rattle.rules.specs.Tree.Chain.{end, link}
@@ -20,7 +20,7 @@ use Rattle.rules.specs.Held.{Formed}
 use Rattle.rules.specs.Removal.{By, Place, place_inside, first_acts, has_list, entered, name_goes, all_go, declarator_goes, Verdict, verdict, become, values, joined, Left, done, treated, treat}
 use Rattle.rules.specs.Removal.Verdict.{stays, sweeps, empties, unlinks, restates, yields, unwraps}
 use Rattle.laws.proofs.Formed.{list_of, listed, list_link, formed_one, one_link, maybe_taken, binding_ways, declarator_children}
-use Rattle.laws.proofs.Verdicts.{Emptying, Unlinking, Restated, Means, means, emptying_kind}
+use Rattle.laws.proofs.Verdicts.{Unlinking, Restated, Means, means, emptied_other}
 use Rattle.laws.proofs.Verdicts.Unlinking.{declares, specifies}
 use Rattle.laws.proofs.KeepsTable.{declarators}
 
@@ -34,9 +34,6 @@ pub data DeclaratorLeft (by : By) (p : Place) (h : Head) (children left : Chain)
   gone : left ≡ end → p.in_export ≡ false → DeclaratorLeft by p h children left
 
 module _ (by : By) (p : Place) (h : Head) (k : h.kind ≡ declarator) where
-  emptied_other : (found children : Chain) → Emptying p h found children → ⊥
-  emptied_other found children m = both_ways false refl (rw k at (emptying_kind p h found children m))
-
   unlinked_inward : Unlinking p h → p.in_export ≡ false
   unlinked_inward (declares e x) = x
   unlinked_inward (specifies e) = absurd (omega arith)
@@ -44,7 +41,7 @@ module _ (by : By) (p : Place) (h : Head) (k : h.kind ≡ declarator) where
   done_declarator : (found : Chain) (inner : Left) (v : Verdict) → Means by p h found inner.chain v → DeclaratorLeft by p h inner.chain (done v h inner).chain
   done_declarator found inner stays m = kept refl m.bound
   done_declarator found inner sweeps m = absurd (both_ways (has_list h) (rw k) m)
-  done_declarator found inner (empties names) m = absurd (emptied_other found inner.chain m.which)
+  done_declarator found inner (empties names) m = absurd (emptied_other (only declarator) refl p h found inner.chain (eq-eqb h.kind declarator k) m.which)
   done_declarator found inner (unlinks name) m = gone refl (unlinked_inward m.which)
   done_declarator found inner restates m = absurd (omega (arith, m.kind))
   done_declarator found inner (yields name) m = absurd (omega (arith, m.kind))
