@@ -7,8 +7,8 @@
 --   maybe_taken, formed_maybe, formed_none       at most one of a sort; none
 --   RecordFormed, FirstFormed, below_formed      a record as the table has it; the first of a chain, and of its children
 --   callee_function, declarator_value, assigned_value      the children of a Function expression, a Declarator and an Assignment
-use Rattle.std.proofs.Common.{◌≡◌, ℕ, Bool, true, false, ◌⊎◌, List, [], ◌∷◌, sym, refl, subst, inl, inr, ⊎_elim}
-use Rattle.std.proofs.lemmas.Bool.{both_ways, cases_Bool, eqb-true, eqb-false}
+use Rattle.std.proofs.Common.{◌≡◌, ℕ, Bool, true, false, ◌⊎◌, List, [], ◌∷◌, sym, refl, subst, inl, inr, arith}
+use Rattle.std.proofs.lemmas.Bool.{both_ways, eqb-true, eqb-false}
 use Rattle.rules.specs.Tree.{Head, Chain, is_end, below, after}
 use Rattle.rules.specs.Tree.Chain.{end, link}
 use Rattle.rules.specs.Kinds.{declarator, function, function_expression, expression, pattern, only}
@@ -29,8 +29,7 @@ list_step : (sort : ℕ → Bool) (k : ℕ) → sort k ≡ true → step k (list
 list_step sort k e = rw e
 
 list_taken : (sort : ℕ → Bool) (k : ℕ) → misplaced (step k (list_of sort)) ≡ false → sort k ≡ true
-list_taken sort k e =
-    ⊎_elim (λ x. x) (λ x. absurd (both_ways true (rw x at e) refl)) (cases_Bool (sort k))
+list_taken sort k e = grind arith
 
 -- the first record is of the sort, and the others are such a chain
 pub listed : (sort : ℕ → Bool) (h : Head) (children rest : Chain) → Formed (list_of sort) (link h children rest) → (sort h.kind ≡ true) × Formed (list_of sort) rest
@@ -46,8 +45,7 @@ list_link sort h children rest e w f r =
     (w, subst (λ (a : List Way). misplaced a ≡ false) same refl, f, subst (λ (a : List Way). Formed a rest) same r)
 
 one_taken : (sort : ℕ → Bool) (way : Way) (k : ℕ) → misplaced (step k ((one sort ∷ way) ∷ [])) ≡ false → sort k ≡ true
-one_taken sort way k e =
-    ⊎_elim (λ x. x) (λ x. absurd (both_ways true (rw x at e) refl)) (cases_Bool (sort k))
+one_taken sort way k e = grind arith
 
 one_step : (sort : ℕ → Bool) (way : Way) (k : ℕ) → sort k ≡ true → step k ((one sort ∷ way) ∷ []) ≡ way ∷ []
 one_step sort way k e = rw e
@@ -67,7 +65,7 @@ one_link sort way h children rest e w f r =
     (w, subst (λ (a : List Way). misplaced a ≡ false) same refl, f, subst (λ (a : List Way). Formed a rest) same r)
 
 pub maybe_taken : (sort : ℕ → Bool) (k : ℕ) → misplaced (step k ((maybe sort ∷ []) ∷ [])) ≡ false → sort k ≡ true
-maybe_taken sort k e = ⊎_elim (λ x. x) (λ x. absurd (both_ways true (rw x at e) refl)) (cases_Bool (sort k))
+maybe_taken sort k e = grind arith
 
 pub formed_maybe : (sort : ℕ → Bool) (c : Chain) → Formed ((maybe sort ∷ []) ∷ []) c → (is_end c ≡ true) ⊎ (sort (first_kind c) ≡ true)
 formed_maybe sort end f = inl refl

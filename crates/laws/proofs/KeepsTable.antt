@@ -9,7 +9,7 @@
 --   inner_ways, bears_inside           the ways of a record's children, while they are treated; these do too
 --   swap_moving, swap_declaring, swap_var, drop_formed      what gives way to a stand-in, or is unlinked, leaves the chain formed
 use Rattle.std.specs.Prelude.{if◌then◌else◌}
-use Rattle.std.proofs.Common.{◌≡◌, ℕ, true, false, ◌||◌, eqb, List, [], ◌∷◌, sym, refl, subst}
+use Rattle.std.proofs.Common.{◌≡◌, ℕ, true, false, ◌||◌, eqb, List, [], ◌∷◌, refl}
 use Rattle.std.proofs.lemmas.Bool.{cond_both, both_ways, or_left, or_right, eqb-true}
 use Rattle.rules.specs.Tree.{Head, Chain, ◌is◌, flagged}
 use Rattle.rules.specs.Tree.Chain.{end}
@@ -68,8 +68,8 @@ export_fair k = fair_append giving_way (if declaration k then [] ∷ [] else [])
 
 pub bears_fair : (p : Place) (k : ℕ) (ways : List Way) → Bears p ways → fair giving_way (step k ways) ≡ true
 bears_fair p k ways (anywhere f) = fair_step giving_way k ways f
-bears_fair p k ways (at_for a e) = subst (λ (w : List Way). fair giving_way (step k w) ≡ true) (sym e) (for_fair k)
-bears_fair p k ways (at_export a e) = subst (λ (w : List Way). fair giving_way (step k w) ≡ true) (sym e) (export_fair k)
+bears_fair p k ways (at_for a e) = rw e (for_fair k)
+bears_fair p k ways (at_export a e) = rw e (export_fair k)
 
 -- the ways of a record's children, while they are treated
 abbrev pub inner_ways : Head → List Way
@@ -159,19 +159,19 @@ module _ (p : Place) (ways : List Way) (d : Chain) where
       stands_fair giving_way ways k m d (or_right (eqb k var_declaration) _ (or_right (eqb k fn_declaration) _ (or_right (eqb k class_declaration) _ among))) stands f
   swap_moving k m among stands (at_for a e) =
       stands_fair declaring ways k m d (or_right (eqb k fn_declaration) _ (or_right (eqb k class_declaration) _ among)) stands
-      (subst (λ (w : List Way). fair declaring w ≡ true) (sym e) refl)
+      (rw e)
   swap_moving k m among stands (at_export a e) =
-      stands_fair moving ways k m d among stands (subst (λ (w : List Way). fair moving w ≡ true) (sym e) refl)
+      stands_fair moving ways k m d among stands (rw e)
 
   pub swap_declaring : (k m : ℕ) → member k declaring ≡ true → member m (stand_ins k) ≡ true → p.in_export ≡ false → Bears p ways → Stands ways k d → Stands ways m d
   swap_declaring k m among stands x (anywhere f) = stands_fair giving_way ways k m d (or_right (eqb k var_declaration) _ among) stands f
-  swap_declaring k m among stands x (at_for a e) = stands_fair declaring ways k m d among stands (subst (λ (w : List Way). fair declaring w ≡ true) (sym e) refl)
+  swap_declaring k m among stands x (at_for a e) = stands_fair declaring ways k m d among stands (rw e)
   swap_declaring k m among stands x (at_export a e) = absurd (both_ways p.in_export x a)
 
   pub drop_formed : (k : ℕ) → member k unlinkable ≡ true → Bears p ways → Formed (step k ways) d → Formed ways d
   drop_formed k gone (anywhere f) = formed_within d (fair_drop giving_way k gone ways f)
-  drop_formed k gone (at_for a e) = formed_within d (fair_drop declaring k gone ways (subst (λ (w : List Way). fair declaring w ≡ true) (sym e) refl))
-  drop_formed k gone (at_export a e) = formed_within d (fair_drop moving k gone ways (subst (λ (w : List Way). fair moving w ≡ true) (sym e) refl))
+  drop_formed k gone (at_for a e) = formed_within d (fair_drop declaring k gone ways (rw e))
+  drop_formed k gone (at_export a e) = formed_within d (fair_drop moving k gone ways (rw e))
 
 -- a For may end with each stand-in of a Var
 for_end : (m : ℕ) → member m (stand_ins var_declaration) ≡ true → Stands for_ways m end
@@ -182,5 +182,5 @@ pub swap_var : (p : Place) (ways : List Way) (d : Chain) (m : ℕ) → member m 
     (p.parent ≡ for_statement → d ≡ end) → Bears p ways → Stands ways var_declaration d → Stands ways m d
 swap_var p ways d m stands x last (anywhere f) s = stands_fair giving_way ways var_declaration m d refl stands f s
 swap_var p ways d m stands x last (at_for a e) s =
-    subst (λ (w : List Way). Stands w m d) (sym e) (subst (λ (c : Chain). Stands for_ways m c) (sym (last a)) (for_end m stands))
+    let l = last a in rw (e, l) (for_end m stands)
 swap_var p ways d m stands x last (at_export a e) s = absurd (both_ways p.in_export x a)

@@ -24,9 +24,8 @@ in_readings e a (h ∷ hs) x = ⊎_elim (λ y. (h, inl refl, y)) (λ y. let r = 
 
 readings_in : (e : Event) (a : Around) (g : Head) (hs : List Head) → In g hs → In e (reading a g).events → In e (readings a hs).events
 readings_in e a g [] x y = absurd x
-readings_in e a g (h ∷ hs) x y = ⊎_elim
-    (λ z. in_left e (reading a h).events (readings a hs).events (subst (λ (f : Head). In e (reading a f).events) z y))
-    (λ z. in_right e (reading a h).events (readings a hs).events (readings_in e a g hs z y)) x
+readings_in e a g (h ∷ hs) x y =
+    grind (arith, in_left e (reading a h).events (readings a hs).events, in_right e (reading a h).events (readings a hs).events, readings_in e a g hs)
 
 -- what is found below a record, its scope left
 abbrev left_of : Head → Chain → Found → Found
@@ -42,14 +41,16 @@ module _ (e : Event) (r : Reference e) where
   no_marks false at ns x = x
 
   left_in : (b : Bool) (h : Head) (cs : Chain) (f : Found) → In e (if b then leave h cs f else f).events → In e f.events
-  left_in true h cs f x =
+  left_in b h cs f x =
       let by_eval = if f.found_direct_eval then marks h.number (distinct [] (names_of (declared_below h cs))) else [] in
       let by_arguments = if f.found_arguments && h is function then marks h.number (names_of (bound cs)) else [] in
-      ⊎_elim
-      (λ y. ⊎_elim (λ z. z) (λ z. absurd (no_marks f.found_direct_eval h.number _ z)) (in_append e f.events by_eval y))
-      (λ y. absurd (no_marks (f.found_arguments && h is function) h.number _ y))
-      (in_append e (f.events ++ by_eval) by_arguments x)
-  left_in false h cs f x = x
+      grind (
+        arith,
+        in_append e f.events by_eval,
+        in_append e (f.events ++ by_eval) by_arguments,
+        no_marks f.found_direct_eval h.number (distinct [] (names_of (declared_below h cs))),
+        no_marks (f.found_arguments && h is function) h.number (names_of (bound cs)),
+      )
 
   pub count_refers : (c : Chain) (a : Around) → In e (count a c).events → Refers a c e
   count_refers end a x = x

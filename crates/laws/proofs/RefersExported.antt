@@ -4,7 +4,7 @@
 --   Exports, in_exported, exported_in      the records that an Export declaration exports, place by place
 --   treat_exports                          none comes by a removal
 use Rattle.std.specs.Prelude.{if◌then◌else◌}
-use Rattle.std.proofs.Common.{◌≡◌, ℕ, Bool, true, false, ◌||◌, eqb, ◌⊎◌, List, [], ◌++◌, sym, refl, subst, inl, inr, ⊎_elim, arith}
+use Rattle.std.proofs.Common.{◌≡◌, ℕ, Bool, true, false, ◌||◌, eqb, ◌⊎◌, List, [], sym, refl, subst, inl, inr, ⊎_elim, arith}
 use Rattle.std.proofs.lemmas.Bool.{both_ways}
 use Rattle.std.proofs.lemmas.Bool.Decides.{nat_tests}
 use Rattle.rules.specs.Tree.{Head, Chain, ◌is◌, is_end, after, alone, append}
@@ -16,7 +16,7 @@ use Rattle.rules.specs.Names.{binds, nests, keep, exported}
 use Rattle.rules.specs.Removal.{By, Place, place_inside, entered, swept, wrapped_object, Verdict, verdict, Left, done, treated, treat}
 use Rattle.rules.specs.Removal.Verdict.{stays, sweeps, empties, unlinks, restates, yields, unwraps}
 use Rattle.rules.specs.Law.{In}
-use Rattle.laws.proofs.Basics.{in_append, in_left, in_right, only_if}
+use Rattle.laws.proofs.Basics.{in_append, in_left, in_right}
 use Rattle.laws.proofs.Formed.{first_kind, assigned_value}
 use Rattle.laws.proofs.Verdicts.{wraps, Means, means, treated_both}
 use Rattle.laws.proofs.KeepsTable.{inner_ways}
@@ -47,17 +47,13 @@ keep_in g h false hs x = ⊎_elim (λ y. absurd (both_ways false refl y.0)) (λ 
 pub in_exported : (g : Head) (c : Chain) → In g (exported c) → Exports g c
 in_exported g end x = x
 in_exported g (link h cs rest) x =
-    let under = if carries h then exported cs else [] in
-    ⊎_elim (λ y. inl y)
-    (λ y. inr (⊎_elim (λ z. let w = only_if (In g) (carries h) (exported cs) [] (λ w. w) z in inl (w.0, in_exported g cs w.1)) (λ z. inr (in_exported g rest z)) (in_append g under (exported rest) y)))
-    (in_keep g h (bears h) (under ++ exported rest) x)
+    grind (arith, in_append g (if carries h then exported cs else []) (exported rest), in_exported g cs, in_exported g rest)
 
 pub exported_in : (g : Head) (c : Chain) → Exports g c → In g (exported c)
 exported_in g end x = x
 exported_in g (link h cs rest) x =
     let under = if carries h then exported cs else [] in
-    keep_in g h (bears h) (under ++ exported rest) (⊎_elim (λ y. inl y)
-    (λ y. inr (⊎_elim (λ z. in_left g under (exported rest) (rw z.0 (exported_in g cs z.1))) (λ z. in_right g under (exported rest) (exported_in g rest z)) y)) x)
+    grind (arith, in_left g under (exported rest), in_right g under (exported rest), exported_in g cs, exported_in g rest)
 
 -- an expression is of no other kind
 pub other_kind : (k m : ℕ) → expression k ≡ true → expression m ≡ false → eqb k m ≡ false

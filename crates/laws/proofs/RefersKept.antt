@@ -27,10 +27,9 @@ module _ (e : Event) where
   done_refers : (by : By) (p : Place) (a : Around) (h : Head) (found : Chain) (inner : Left) → Formed (inner_ways h) inner.chain
       → ((g : Head) → Exports g inner.chain → Exports g found) → (Refers (inside a h) inner.chain e → Refers (inside a h) found e)
       → (v : Verdict) → Means by p h found inner.chain v → Refers a (done v h inner).chain e → Refers a (link h found end) e
-  done_refers by p a h found inner k xs t stays m x = ⊎_elim (λ y. inl (here_kept a h found inner.chain xs y)) (λ y. inr (⊎_elim (λ z. inl (t z)) (λ z. absurd z) y)) x
-  done_refers by p a h found inner k xs t sweeps m x = ⊎_elim
-      (λ y. inl (here_kept a h found (swept inner.chain) (λ g z. xs g (exports_swept g inner.chain z)) y))
-      (λ y. inr (⊎_elim (λ z. inl (t (refers_swept e (inside a h) inner.chain z))) (λ z. absurd z) y)) x
+  done_refers by p a h found inner k xs t stays m x = grind (arith, here_kept a h found inner.chain xs, t)
+  done_refers by p a h found inner k xs t sweeps m x =
+      grind (arith, here_kept a h found (swept inner.chain) (λ g z. xs g (exports_swept g inner.chain z)), t, refers_swept e (inside a h) inner.chain)
   done_refers by p a h found inner k xs t (empties ns) m x = grind arith
   done_refers by p a h found inner k xs t (unlinks n) m x = absurd x
   done_refers by p a h found inner k xs t restates m x = ⊎_elim
