@@ -2,13 +2,12 @@
 --
 --   count_refers, refers_count      an event of the count is a reference of the tree, and back
 use Rattle.std.specs.Prelude.{if◌then◌else◌}
-use Rattle.std.proofs.Common.{◌≡◌, ℕ, Bool, true, false, ◌&&◌, List, [], ◌∷◌, ◌++◌, sym, refl, ap, ◌∙◌, subst, inl, inr, ⊎_elim, arith}
-use Rattle.std.proofs.lemmas.Bool.{both_ways}
+use Rattle.std.proofs.Common.{◌≡◌, ℕ, Bool, List, [], ◌∷◌, ◌++◌, sym, refl, subst, inl, inr, ⊎_elim, arith}
 use Rattle.rules.specs.Tree.{Head, Chain, Name, ◌is◌}
 use Rattle.rules.specs.Tree.Chain.{end, link}
-use Rattle.rules.specs.Kinds.{export_declaration, function}
-use Rattle.rules.specs.Names.{names_of, distinct, bound, declared_below, exported}
-use Rattle.rules.specs.Counting.{Event, unheld, Found, nothing, Around, reading, readings, marks, own, opens, leave, inside, count}
+use Rattle.rules.specs.Kinds.{export_declaration}
+use Rattle.rules.specs.Names.{exported}
+use Rattle.rules.specs.Counting.{Event, Found, nothing, Around, reading, readings, marks, own, opens, leave, inside, count}
 use Rattle.rules.specs.Law.{In, Reference}
 use Rattle.laws.proofs.Basics.{in_append, in_left, in_right, only_if}
 use Rattle.laws.proofs.RefersExported.{in_exported, exported_in}
@@ -34,23 +33,10 @@ left_of h cs f = if opens h then leave h cs f else f
 module _ (e : Event) (r : Reference e) where
   no_mark : (at : ℕ) (ns : List Name) → In e (marks at ns) → ⊥
   no_mark at [] x = x
-  no_mark at (n ∷ ns) x = ⊎_elim (λ y. both_ways false refl (ap (λ (v : Event). v.entry) (sym y) ∙ r ∙ ap (λ (v : Event). unheld v.holders) y)) (no_mark at ns) x
-
-  no_marks : (b : Bool) (at : ℕ) (ns : List Name) → In e (if b then marks at ns else []) → ⊥
-  no_marks true at ns x = no_mark at ns x
-  no_marks false at ns x = x
+  no_mark at (n ∷ ns) x = grind (arith, no_mark at ns)
 
   left_in : (b : Bool) (h : Head) (cs : Chain) (f : Found) → In e (if b then leave h cs f else f).events → In e f.events
-  left_in b h cs f x =
-      let by_eval = if f.found_direct_eval then marks h.number (distinct [] (names_of (declared_below h cs))) else [] in
-      let by_arguments = if f.found_arguments && h is function then marks h.number (names_of (bound cs)) else [] in
-      grind (
-        arith,
-        in_append e f.events by_eval,
-        in_append e (f.events ++ by_eval) by_arguments,
-        no_marks f.found_direct_eval h.number (distinct [] (names_of (declared_below h cs))),
-        no_marks (f.found_arguments && h is function) h.number (names_of (bound cs)),
-      )
+  left_in b h cs f x = grind (arith, in_append e, no_mark h.number)
 
   pub count_refers : (c : Chain) (a : Around) → In e (count a c).events → Refers a c e
   count_refers end a x = x
@@ -72,8 +58,7 @@ module _ (e : Event) (r : Reference e) where
       (in_append e before (under ++ (mine ++ onward)) x)
 
 in_left_of : (e : Event) (b : Bool) (h : Head) (cs : Chain) (f : Found) → In e f.events → In e (if b then leave h cs f else f).events
-in_left_of e true h cs f x = in_left e (f.events ++ _) _ (in_left e f.events _ x)
-in_left_of e false h cs f x = x
+in_left_of e b h cs f x = grind (arith, in_left e)
 
 pub refers_count : (e : Event) (c : Chain) (a : Around) → Refers a c e → In e (count a c).events
 refers_count e end a x = x

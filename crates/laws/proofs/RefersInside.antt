@@ -2,7 +2,7 @@
 --
 --   OnPaths, inside_on      a name on one of the paths; below a record
 --   holder_inside           the theorem
-use Rattle.std.proofs.Common.{◌≡◌, ℕ, Bool, true, false, ◌||◌, ◌⊎◌, List, [], ◌∷◌, sym, ap, subst, inl, inr, ⊎_elim, arith}
+use Rattle.std.proofs.Common.{◌≡◌, Bool, true, false, ◌||◌, ◌⊎◌, List, [], ◌∷◌, ap, inl, inr, ⊎_elim, arith}
 use Rattle.std.proofs.lemmas.Bool.{cond_both}
 use Rattle.rules.specs.Tree.{Head, Chain, Name, ◌is◌, name_of}
 use Rattle.rules.specs.Tree.Chain.{end, link}
@@ -64,12 +64,11 @@ module _ (e : Event) where
 
   -- the reference stands in the record's chain, and its holders are the innermost path's
   here_of : (a : Around) (h : Head) (cs : Chain) → Here a h cs e → ((e.at ≡ h.number) ⊎ Numbers e.at cs) × (e.holders ≡ holders a.ast_paths)
-  here_of a h cs x = ⊎_elim
-      (λ y.
+  here_of a h cs (inl y) =
       let g = y.1.0 in
       let o = reference_of a false g y.1.2 in
-      (inr (subst (λ (n : ℕ). Numbers n cs) (sym o.0) (exports_number g cs y.1.1)), o.1))
-      (λ y. let o = own_of a h y in (inl o.0, o.1)) x
+      (inr (rw o.0 (exports_number g cs y.1.1)), o.1)
+  here_of a h cs (inr y) = let o = own_of a h y in (inl o.0, o.1)
 
   refers_stands : (c : Chain) (a : Around) → Refers a c e → Numbers e.at c
   refers_stands end a x = x
