@@ -61,7 +61,7 @@ exported_filled by p x (link h children rest) f e =
     let inner = treat by (place_inside p h) children in
     let onward = (treat by p rest).chain in
     elim (declarator_left by p h k children (is_end rest) inner) [
-      | kept left bound ↦ subst (λ (d : Chain). is_end (append d onward) ≡ false) (sym left) refl
+      | kept left bound ↦ rw left
       | gone left inward ↦ absurd (both_ways p.in_export inward x)
     ]
 
@@ -79,8 +79,8 @@ first_kept by p (link h children rest) f =
     let onward = (treat by p rest).chain in
     let i = first_kept by p rest l.1 in
     elim (declarator_left by p h k children (is_end rest) inner) [
-      | kept left bound ↦ subst (λ (d : Chain). FirstKept by p (append d onward)) (sym left) (k, bound)
-      | gone left inward ↦ subst (λ (d : Chain). FirstKept by p (append d onward)) (sym left) i
+      | kept left bound ↦ rw left (k, bound)
+      | gone left inward ↦ rw left i
     ]
 
 -- the value of a Declarator, before other expressions

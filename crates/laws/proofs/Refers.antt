@@ -5,7 +5,7 @@
 --   with_role                       the same surroundings with another role of a Name pattern
 --   refers_append, refers_swept, refers_after, refers_moved      what moves
 --   refers_joined                   the values of a Var's Declarators
-use Rattle.std.proofs.Common.{◌≡◌, true, false, ◌⊎◌, List, sym, refl, subst, inl, inr, ⊎_elim, arith}
+use Rattle.std.proofs.Common.{◌≡◌, true, false, ◌⊎◌, sym, refl, subst, inl, inr, ⊎_elim, arith}
 use Rattle.std.proofs.lemmas.Bool.{cond_both, both_ways, eqb-true}
 use Rattle.rules.specs.Tree.{Head, Chain, ◌is◌, is_end, after, alone, append}
 use Rattle.rules.specs.Tree.Chain.{end, link}
@@ -66,8 +66,8 @@ module _ (e : Event) where
       let k : expression h.kind ≡ true = ⊎_elim (λ z. absurd (both_ways false refl z)) (λ z. z) x in
       ⊎_elim
       (λ z. inl (⊎_elim (λ w. absurd (both_ways (h is export_declaration) (other_kind h.kind export_declaration k refl) w.0))
-      (λ w. inr (subst (λ (es : List Event). In e es) (own_expression a h r s k) w)) z))
-      (λ z. inr (⊎_elim (λ w. inl (subst (λ (o : Around). Refers o cs e) (inside_expression a h r s k) w)) (λ w. absurd w) z)) y
+      (λ w. inr (rw (own_expression a h r s k) at w)) z))
+      (λ z. inr (⊎_elim (λ w. inl (rw (inside_expression a h r s k) at w)) (λ w. absurd w) z)) y
 
   refers_values : (a : Around) (c : Chain) → Formed declarators c → Refers (with_role a written) (values c) e → Refers (with_role a written) c e
   refers_values a end s x = x

@@ -4,7 +4,7 @@
 --   Exports, in_exported, exported_in      the records that an Export declaration exports, place by place
 --   treat_exports                          none comes by a removal
 use Rattle.std.specs.Prelude.{if◌then◌else◌}
-use Rattle.std.proofs.Common.{◌≡◌, ℕ, Bool, true, false, ◌||◌, eqb, ◌⊎◌, List, [], sym, refl, subst, inl, inr, ⊎_elim, arith}
+use Rattle.std.proofs.Common.{◌≡◌, ℕ, Bool, true, false, ◌||◌, eqb, ◌⊎◌, List, [], refl, inl, inr, ⊎_elim, arith}
 use Rattle.std.proofs.lemmas.Bool.{both_ways}
 use Rattle.std.proofs.lemmas.Bool.Decides.{nat_tests}
 use Rattle.rules.specs.Tree.{Head, Chain, ◌is◌, is_end, after, alone, append}
@@ -88,7 +88,7 @@ module _ (g : Head) where
   done_exports by p h found inner k t restates m x = grind arith
   done_exports by p h found inner k t (yields n) m x = absurd (expression_exports (after inner.chain) (assigned_value (assigned h) inner.chain (rw m.kind at k)) x)
   done_exports by p h found inner k t unwraps m x =
-      absurd (expression_exports (wrapped_object inner.chain) (subst (λ (j : ℕ). expression j ≡ true) (sym (wraps inner.chain m.wraps).object) refl) x)
+      absurd (expression_exports (wrapped_object inner.chain) (rw (wraps inner.chain m.wraps).object) x)
 
   pub treat_exports : (by : By) (p : Place) (ways : List Way) (c : Chain) → Formed ways c → Exports g (treat by p c).chain → Exports g c
   treat_exports by p ways end s x = x

@@ -4,14 +4,14 @@
 --   treat_used          a removal that changes nothing leaves only used removable functions
 --   pass_used           so they are counted
 use Rattle.std.proofs.Common.{◌≡◌, Bool, true, false, eqb, ◌⊎◌, List, sym, refl, ◌∙◌, subst, inl, inr, ⊎_elim, arith}
-use Rattle.std.proofs.lemmas.Bool.{cond_both, and_parts, both_ways, or_parts}
+use Rattle.std.proofs.lemmas.Bool.{cond_both, both_ways, or_parts}
 use Rattle.rules.specs.Tree.{Head, Chain, Name, ◌is◌, name_of, is_end, append}
 use Rattle.rules.specs.Tree.Chain.{end, link}
 use Rattle.rules.specs.Kinds.{fn_declaration, for_statement}
 use Rattle.rules.specs.Grammar.{Way, children_of, step, root}
 use Rattle.rules.specs.Held.{Formed}
 use Rattle.rules.specs.Counting.{Found, outermost, events_of}
-use Rattle.rules.specs.Tables.{NameRow, Counts, look}
+use Rattle.rules.specs.Tables.{NameRow, look}
 use Rattle.rules.specs.Rings.{discount}
 use Rattle.rules.specs.Removal.{Config, By, Place, at_root, place_inside, unused, has_list, entered, swept, fn_goes, Left, treated, treat}
 use Rattle.rules.specs.Calls.{Pass, pass_by, remove}
@@ -64,9 +64,9 @@ module _ (by : By) (n : Name) where
       let below : inner.changed ≡ false → Leaves q inner.chain = treat_used q (children_of h) cs s.2 in
       both_used p h (is_end rest) one (treat by p rest) (treat_same by p (step h.kind ways) rest s.3 parts.1).ends
       (treated_kept by p h cs inner (LeavesHere p h (is_end rest))
-      (λ m f _ x. ⊎_elim (λ y. subst (λ (k : Name). unused (by.row k) ≡ false) (sym y.1) (used_by by p h m.used y.0)) (below f) x)
+      (λ m f _ x. ⊎_elim (λ y. rw y.1 (used_by by p h m.used y.0)) (below f) x)
       (λ has f _ x. ⊎_elim
-      (λ y. absurd (both_ways (h is fn_declaration) (list_no_fn h has) (and_parts (h is fn_declaration) _ y.0).0))
+      (λ y. absurd (both_ways (h is fn_declaration) (list_no_fn h has) (grind (arith, y.0))))
       (λ y. below f (swept_removable by.config n q (list_no_for h has) inner.chain y)) x)
       b (λ f e. absurd (both_ways b f e)) parts.0)
       (treat_used p (step h.kind ways) rest s.3 parts.1)
@@ -81,5 +81,5 @@ pass_used k p s f g n x =
     let by = pass_by k p.filled in
     let c = p.filled.counts in
     let u = used_counted (look n (discount c)) (treat_used by n at_root root p.found s g x) in
-    let found = counted_only n (events_of p.found) (subst (λ (t : Counts). (look n t.names).counted ≡ true) f (sym (counted_row c n) ∙ u)) in
+    let found = counted_only n (events_of p.found) (rw f at (sym (counted_row c n) ∙ u)) in
     subst (λ (t : Found). Counted n t.events) (sym ((treat_same by at_root root p.found s g).counts outermost)) found
