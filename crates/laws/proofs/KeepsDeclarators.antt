@@ -128,14 +128,15 @@ name_inside : (by : By) (p : Place) (h : Head) (parts : Chain) → h.kind ≡ va
     name_goes by (place_inside p h) (place_inside p h).in_var parts ≡ name_goes by p (flagged h) parts
 name_inside by p h parts k = rw (k, or-false p.in_fn, or-false p.in_block_stmt)
 
-inward_inside : (p : Place) (h : Head) → h.kind ≡ var_declaration → p.in_export ≡ false → (place_inside p h).in_export ≡ false
-inward_inside p h k x = rw (k, x)
+-- the Declarators of an exported Var are exported, and no others
+pub var_inside : (p : Place) (h : Head) → h.kind ≡ var_declaration → (place_inside p h).in_export ≡ p.in_export
+var_inside p h k = grind (arith, nat_tests)
 
 -- a Declarator that stays although its name can go has a value
 kept_valued : (by : By) (p : Place) (h d : Head) (parts : Chain) → h.kind ≡ var_declaration → p.in_export ≡ false → d.kind ≡ declarator →
     declarator_goes by (place_inside p h) d parts ≡ false → name_goes by p (flagged h) parts ≡ true → is_end (after parts) ≡ false
 kept_valued by p h d parts k x kd stayed goes =
-    grind (arith, nat_tests, acts_filled by (after parts), name_inside by p h parts k, inward_inside p h k x)
+    grind (arith, nat_tests, acts_filled by (after parts), name_inside by p h parts k, var_inside p h k)
 
 -- what a Var becomes has its child
 pub restated_formed : (by : By) (p : Place) (h : Head) (c : Chain) → Restated by p h c → FirstKept by (place_inside p h) c → Formed declarators c →

@@ -4,15 +4,14 @@
 --   Exports, in_exported, exported_in      the records that an Export declaration exports, place by place
 --   treat_exports                          none comes by a removal
 use Rattle.std.specs.Prelude.{if◌then◌else◌}
-use Rattle.std.proofs.Common.{◌≡◌, ℕ, Bool, true, false, ◌||◌, eqb, ◌⊎◌, List, [], refl, inl, inr, ⊎_elim, arith}
-use Rattle.std.proofs.lemmas.Bool.{both_ways}
+use Rattle.std.proofs.Common.{◌≡◌, ℕ, Bool, true, false, ◌||◌, eqb, ◌⊎◌, List, [], inl, inr, ⊎_elim, arith}
 use Rattle.std.proofs.lemmas.Bool.Decides.{nat_tests}
 use Rattle.rules.specs.Tree.{Head, Chain, ◌is◌, is_end, after, alone, append}
 use Rattle.rules.specs.Tree.Chain.{end, link}
 use Rattle.rules.specs.Kinds.{fn_declaration, class_declaration, var_declaration, declarator, expression}
 use Rattle.rules.specs.Grammar.{Way, assigned, children_of, step}
 use Rattle.rules.specs.Held.{Formed}
-use Rattle.rules.specs.Names.{binds, nests, keep, exported}
+use Rattle.rules.specs.Names.{binds, nests, exported}
 use Rattle.rules.specs.Removal.{By, Place, place_inside, entered, swept, wrapped_object, Verdict, verdict, Left, done, treated, treat}
 use Rattle.rules.specs.Removal.Verdict.{stays, sweeps, empties, unlinks, restates, yields, unwraps}
 use Rattle.rules.specs.Law.{In}
@@ -34,15 +33,6 @@ carries h = h is var_declaration || h is declarator || nests h
 abbrev pub Exports : Head → Chain → Type 0
 Exports g end = ⊥
 Exports g (link h cs rest) = ((bears h ≡ true) × (g ≡ h)) ⊎ (((carries h ≡ true) × Exports g cs) ⊎ Exports g rest)
-
--- by a test that adds something
-in_keep : (g h : Head) (b : Bool) (hs : List Head) → In g (keep b h hs) → ((b ≡ true) × (g ≡ h)) ⊎ In g hs
-in_keep g h true hs x = ⊎_elim (λ e. inl (refl, e)) (λ y. inr y) x
-in_keep g h false hs x = inr x
-
-keep_in : (g h : Head) (b : Bool) (hs : List Head) → ((b ≡ true) × (g ≡ h)) ⊎ In g hs → In g (keep b h hs)
-keep_in g h true hs x = ⊎_elim (λ y. inl y.1) (λ y. inr y) x
-keep_in g h false hs x = ⊎_elim (λ y. absurd (both_ways false refl y.0)) (λ y. y) x
 
 pub in_exported : (g : Head) (c : Chain) → In g (exported c) → Exports g c
 in_exported g end x = x

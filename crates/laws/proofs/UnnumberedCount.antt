@@ -43,10 +43,6 @@ filled_unnumbered es c = fold-map (λ (d : Counts) (e : Event). entered e d) unp
 pub names_unnumbered : (hs : List Head) → names_of (unnumbered_heads hs) ≡ names_of hs
 names_unnumbered hs = map-map name_of unnumbered_head hs
 
-keep_unnumbered : (b : Bool) (h : Head) (hs : List Head) → keep b (unnumbered_head h) (unnumbered_heads hs) ≡ unnumbered_heads (keep b h hs)
-keep_unnumbered true h hs = refl
-keep_unnumbered false h hs = refl
-
 -- a record, what is under it if that is wanted, and the rest
 kept_unnumbered : (b n : Bool) (h : Head) (xs ys : List Head) {xs' ys' : List Head} → xs' ≡ unnumbered_heads xs → ys' ≡ unnumbered_heads ys
     → keep b (unnumbered_head h) ((if n then xs' else []) ++ ys') ≡ unnumbered_heads (keep b h ((if n then xs else []) ++ ys))
@@ -75,8 +71,7 @@ followed_unnumbered x y p q =
     ∙ ap₂ ◌followed_by◌ p q
 
 either_unnumbered : (b : Bool) (x y : Found) {x' y' : Found} → unnumbered_found x ≡ x' → unnumbered_found y ≡ y' → unnumbered_found (if b then x else y) ≡ (if b then x' else y')
-either_unnumbered true x y p q = p
-either_unnumbered false x y p q = q
+either_unnumbered b x y p q = grind arith
 
 reference_unnumbered : (a : Around) (w : Bool) (h : Head) → unnumbered_found (reference a w h) ≡ reference a w (unnumbered_head h)
 reference_unnumbered a w h = grind arith
