@@ -9,16 +9,17 @@
 --   kept_valued, restated_formed   one that stays although its name can go has a value; what a Var becomes has its child
 use Rattle.std.proofs.Common.{◌≡◌, Bool, true, false, List, [], ◌∷◌, sym, refl, subst, arith}
 use mathlib.Core.Bool.{or-false}
-use Rattle.std.proofs.lemmas.Bool.{cond_both, eq-eqb, both_ways, and_parts, eqb-true}
+use Rattle.std.proofs.lemmas.Bool.{eq-eqb, both_ways, and_parts, eqb-true}
 use Rattle.std.proofs.lemmas.Bool.Decides.{nat_tests}
 use Rattle.rules.specs.Tree.{Head, Chain, flagged, is_end, after, alone, append}
 use Rattle.rules.specs.Tree.Chain.{end, link}
-use Rattle.rules.specs.Kinds.{var_declaration, declarator, plain_expression, expression, pattern, only}
+use Rattle.rules.specs.Kinds.{var_declaration, declarator, expression, pattern, only}
 use Rattle.rules.specs.Grammar.{Way}
 use Rattle.rules.specs.Grammar.Part.{one, maybe}
 use Rattle.rules.specs.Held.{Formed}
-use Rattle.rules.specs.Removal.{By, Place, place_inside, first_acts, has_list, entered, name_goes, all_go, declarator_goes, Verdict, verdict, become, values, joined, Left, done, treated, treat}
+use Rattle.rules.specs.Removal.{By, Place, place_inside, first_acts, has_list, entered, name_goes, all_go, declarator_goes, Verdict, verdict, values, joined, Left, done, treated, treat}
 use Rattle.rules.specs.Removal.Verdict.{stays, sweeps, empties, unlinks, restates, yields, unwraps}
+use Rattle.laws.proofs.Basics.{joined_both}
 use Rattle.laws.proofs.Formed.{list_of, listed, list_link, formed_one, one_link, maybe_taken, binding_ways, declarator_children}
 use Rattle.laws.proofs.Verdicts.{Unlinking, Restated, Means, means, emptied_other}
 use Rattle.laws.proofs.Verdicts.Unlinking.{declares, specifies}
@@ -114,9 +115,8 @@ joined_formed : (d : Head) (parts rest : Chain) → is_end (after parts) ≡ fal
 joined_formed d parts rest e f =
     let all = values (link d parts rest) in
     let g = values_formed (link d parts rest) f in
-    cond_both (is_end (after all)) all (link (become plain_expression d) all end) (λ (c : Chain). Formed ((one expression ∷ []) ∷ []) c)
-    (λ last. single_formed all (append_filled (after parts) (values rest) e) last g)
-    (λ _. (refl, refl, g, refl))
+    joined_both (λ (c : Chain). Formed ((one expression ∷ []) ∷ []) c) d parts rest
+    (λ last. single_formed all (append_filled (after parts) (values rest) e) last g) (refl, refl, g, refl)
 
 -- what acts is there
 acts_filled : (by : By) (c : Chain) → first_acts by c ≡ true → is_end c ≡ false

@@ -9,18 +9,18 @@
 --   inner_ways, bears_inside           the ways of a record's children, while they are treated; these do too
 --   swap_moving, swap_declaring, swap_var, drop_formed      what gives way to a stand-in, or is unlinked, leaves the chain formed
 use Rattle.std.specs.Prelude.{if◌then◌else◌}
-use Rattle.std.proofs.Common.{◌≡◌, ℕ, true, false, eqb, List, [], ◌∷◌, refl, inl, inr, arith}
-use Rattle.std.proofs.lemmas.Bool.{cond_both, cases_Bool, both_ways, or_left, or_right, eqb-true}
+use Rattle.std.proofs.Common.{◌≡◌, ℕ, true, false, List, [], ◌∷◌, refl, inl, inr, arith}
+use Rattle.std.proofs.lemmas.Bool.{cond_both, cases_Bool, both_ways, or_left, eqb-true}
 use Rattle.rules.specs.Tree.{Head, Chain, ◌is◌}
 use Rattle.rules.specs.Tree.Chain.{end}
 use Rattle.rules.specs.Kinds.{import_item, export_declaration, fn_declaration, class_declaration, var_declaration, for_statement, declarator, call_expression, assignment, member, expression, statement, declaration, for_head, only}
-use Rattle.rules.specs.Grammar.{Way, item_children, statement_children, part_children, expression_children, pattern_children, children_of, go_on, step, misplaced}
+use Rattle.rules.specs.Grammar.{Way, item_children, statement_children, part_children, expression_children, pattern_children, children_of, step, misplaced}
 use Rattle.rules.specs.Grammar.Part.{one, maybe, many}
 use Rattle.rules.specs.Held.{Formed}
 use Rattle.rules.specs.Removal.{Place, place_inside}
 use Rattle.laws.proofs.Basics.{each_member}
 use Rattle.laws.proofs.KeepsWays.{Within, within_placed, formed_within}
-use Rattle.laws.proofs.KeepsFair.{stand_ins, unlinkable, fair_way, fair, fair_append, fair_cond, fair_on, fair_step, fair_swap, fair_drop}
+use Rattle.laws.proofs.KeepsFair.{stand_ins, unlinkable, fair_way, fair, fair_step, fair_swap, fair_drop}
 
 -- the kinds that give way, in an Export declaration too
 abbrev pub moving : List ℕ
@@ -57,14 +57,10 @@ pub data Bears (p : Place) (ways : List Way) : Type 0 where
   at_export : p.in_export ≡ true → ways ≡ export_ways → Bears p ways
 
 for_fair : (k : ℕ) → fair giving_way (step k for_ways) ≡ true
-for_fair k =
-    fair_append giving_way (go_on k (maybe for_head ∷ for_parts)) []
-    (fair_append giving_way (if for_head k then for_parts ∷ [] else []) (go_on k for_parts)
-    (fair_cond giving_way (for_head k) for_parts refl) (fair_on giving_way k for_parts refl))
-    refl
+for_fair k = grind arith
 
 export_fair : (k : ℕ) → fair giving_way (step k export_ways) ≡ true
-export_fair k = fair_append giving_way (if declaration k then [] ∷ [] else []) [] (fair_cond giving_way (declaration k) [] refl) refl
+export_fair k = grind arith
 
 pub bears_fair : (p : Place) (k : ℕ) (ways : List Way) → Bears p ways → fair giving_way (step k ways) ≡ true
 bears_fair p k ways (anywhere f) = fair_step giving_way k ways f
@@ -122,15 +118,15 @@ stands_fair ks ways k m d among stands f = stands_within ways k m d (fair_swap k
 module _ (p : Place) (ways : List Way) (d : Chain) where
   pub swap_moving : (k m : ℕ) → member k moving ≡ true → member m (stand_ins k) ≡ true → Bears p ways → Stands ways k d → Stands ways m d
   swap_moving k m among stands (anywhere f) =
-      stands_fair giving_way ways k m d (or_right (eqb k var_declaration) _ (or_right (eqb k fn_declaration) _ (or_right (eqb k class_declaration) _ among))) stands f
+      stands_fair giving_way ways k m d (grind (arith, among)) stands f
   swap_moving k m among stands (at_for a e) =
-      stands_fair declaring ways k m d (or_right (eqb k fn_declaration) _ (or_right (eqb k class_declaration) _ among)) stands
+      stands_fair declaring ways k m d (grind (arith, among)) stands
       (rw e)
   swap_moving k m among stands (at_export a e) =
       stands_fair moving ways k m d among stands (rw e)
 
   pub swap_declaring : (k m : ℕ) → member k declaring ≡ true → member m (stand_ins k) ≡ true → p.in_export ≡ false → Bears p ways → Stands ways k d → Stands ways m d
-  swap_declaring k m among stands x (anywhere f) = stands_fair giving_way ways k m d (or_right (eqb k var_declaration) _ among) stands f
+  swap_declaring k m among stands x (anywhere f) = stands_fair giving_way ways k m d (grind (arith, among)) stands f
   swap_declaring k m among stands x (at_for a e) = stands_fair declaring ways k m d among stands (rw e)
   swap_declaring k m among stands x (at_export a e) = absurd (both_ways p.in_export x a)
 

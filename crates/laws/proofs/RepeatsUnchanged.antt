@@ -5,7 +5,7 @@
 --   treat_same                              a removal that changes nothing leaves such a tree
 use Rattle.std.specs.Prelude.{if◌then◌else◌}
 use Rattle.std.proofs.Common.{◌≡◌, ℕ, Bool, true, false, ◌&&◌, ◌||◌, List, [], ◌∷◌, ◌++◌, sym, refl, ap, ◌∙◌, ⊎_elim, arith}
-use Rattle.std.proofs.lemmas.Bool.{cond_both, and_parts, both_ways, or_cases, or_parts, eqb-true}
+use Rattle.std.proofs.lemmas.Bool.{and_parts, both_ways, or_cases, or_parts, eqb-true}
 use Rattle.rules.specs.Tree.{Head, Chain, ◌is◌, is_end, append}
 use Rattle.rules.specs.Tree.Chain.{end, link}
 use Rattle.rules.specs.Kinds.{export_declaration, export_name, empty_statement, block, fn_declaration, class_declaration, var_declaration, declarator, function, identifier, arrow, call_expression, name_pattern, property_name}
@@ -14,7 +14,7 @@ use Rattle.rules.specs.Held.{Formed}
 use Rattle.rules.specs.Names.{names_of, distinct, binds, nests, keep, bound, Under, under_nothing, under, declares, declaring, declared_below, exported}
 use Rattle.rules.specs.Counting.{Found, nothing, ◌followed_by◌, Around, reading, writing, readings, marks, named_here, calls_eval, opens, inside, count}
 use Rattle.rules.specs.Removal.{By, Place, place_inside, has_list, entered, swept, Left, treated, treat}
-use Rattle.laws.proofs.Basics.{each_member}
+use Rattle.laws.proofs.Basics.{swept_both, each_member}
 use Rattle.laws.proofs.Formed.{formed_none}
 use Rattle.laws.proofs.Verdicts.{Kept, treated_kept, with_kind, by_list}
 use Rattle.laws.proofs.KeepsTable.{inner_ways}
@@ -58,9 +58,9 @@ by_swept P h (link i ds rest) k g x y = absurd (⊎_elim
 count_swept : (a : Around) (ways : List Way) (c : Chain) → Formed ways c → count a (swept c) ≡ count a c
 count_swept a ways end s = refl
 count_swept a ways (link h cs rest) s =
-    cond_both (h is empty_statement || (h is block && is_end cs)) (swept rest) (link h cs (swept rest)) (λ (d : Chain). count a d ≡ count a (link h cs rest))
+    swept_both (λ (d : Chain). count a d ≡ count a (link h cs rest)) h cs rest
     (λ g. count_swept a (step h.kind ways) rest s.3 ∙ by_swept (λ (h : Head) (cs : Chain). count a rest ≡ count a (link h cs rest)) h cs s.2 g refl refl)
-    (λ _. ap (λ (f : Found). found_at a h (exported cs) (count (inside a h) cs) (declared_below h cs) (bound cs) (calls_eval cs) f) (count_swept a (step h.kind ways) rest s.3))
+    (ap (λ (f : Found). found_at a h (exported cs) (count (inside a h) cs) (declared_below h cs) (bound cs) (calls_eval cs) f) (count_swept a (step h.kind ways) rest s.3))
 
 declares_none : (b d : Bool) (h : Head) → let u : Under = record { binding = b; default = d } in
     (declares u (with_kind h empty_statement) ≡ false) × (declares u (with_kind h block) ≡ false)
@@ -73,10 +73,10 @@ declaring_swept : (u : Under) (ways : List Way) (c : Chain) → Formed ways c �
 declaring_swept u ways end s = refl
 declaring_swept u ways (link h cs rest) s =
     let none = declares_none u.binding u.default h in
-    cond_both (h is empty_statement || (h is block && is_end cs)) (swept rest) (link h cs (swept rest)) (λ (d : Chain). declaring u d ≡ declaring u (link h cs rest))
+    swept_both (λ (d : Chain). declaring u d ≡ declaring u (link h cs rest)) h cs rest
     (λ g. declaring_swept u (step h.kind ways) rest s.3 ∙ by_swept (λ (h : Head) (cs : Chain). declaring u rest ≡ declaring u (link h cs rest)) h cs s.2 g
     (declaring_none u (with_kind h empty_statement) rest none.0) (declaring_none u (with_kind h block) rest none.1))
-    (λ _. ap (λ (hs : List Head). keep (declares u h) h (declaring (under u h) cs ++ hs)) (declaring_swept u (step h.kind ways) rest s.3))
+    (ap (λ (hs : List Head). keep (declares u h) h (declaring (under u h) cs ++ hs)) (declaring_swept u (step h.kind ways) rest s.3))
 
 -- THE SAME TREE
 

@@ -4,7 +4,7 @@
 --   treat_used          a removal that changes nothing leaves only used removable functions
 --   pass_used           so they are counted
 use Rattle.std.proofs.Common.{◌≡◌, Bool, true, false, eqb, ◌⊎◌, List, sym, refl, ◌∙◌, subst, inl, inr, ⊎_elim, arith}
-use Rattle.std.proofs.lemmas.Bool.{cond_both, both_ways, or_parts}
+use Rattle.std.proofs.lemmas.Bool.{both_ways, or_parts}
 use Rattle.rules.specs.Tree.{Head, Chain, Name, ◌is◌, name_of, is_end, append}
 use Rattle.rules.specs.Tree.Chain.{end, link}
 use Rattle.rules.specs.Kinds.{fn_declaration, for_statement}
@@ -16,6 +16,7 @@ use Rattle.rules.specs.Rings.{discount}
 use Rattle.rules.specs.Removal.{Config, By, Place, at_root, place_inside, unused, has_list, entered, swept, fn_goes, Left, treated, treat}
 use Rattle.rules.specs.Calls.{Pass, pass_by, remove}
 use Rattle.rules.specs.Law.{removable, Removable, Counted}
+use Rattle.laws.proofs.Basics.{swept_both}
 use Rattle.laws.proofs.Verdicts.{Kept, treated_kept, entered_anywhere, by_list}
 use Rattle.laws.proofs.TablesTold.{counted_only}
 use Rattle.laws.proofs.RingsDiscount.{counted_row}
@@ -30,9 +31,10 @@ list_no_fn h g = by_list (λ (h : Head). h is fn_declaration ≡ false) h g refl
 
 swept_removable : (k : Config) (n : Name) (p : Place) → eqb p.parent for_statement ≡ false → (c : Chain) → Removable k p n (swept c) → Removable k p n c
 swept_removable k n p g end = λ x. x
-swept_removable k n p g (link h cs rest) = cond_both _ (swept rest) (link h cs (swept rest)) (λ (d : Chain). Removable k p n d → Removable k p n (link h cs rest))
+swept_removable k n p g (link h cs rest) =
+    swept_both (λ (d : Chain). Removable k p n d → Removable k p n (link h cs rest)) h cs rest
     (λ _ x. inr (swept_removable k n p g rest x))
-    (λ _ x. ⊎_elim (λ y. inl (entered_anywhere p h cs (is_end rest) (is_end (swept rest)) g ∙ y.0, y.1)) (λ y. inr (swept_removable k n p g rest y)) x)
+    (λ x. ⊎_elim (λ y. inl (entered_anywhere p h cs (is_end rest) (is_end (swept rest)) g ∙ y.0, y.1)) (λ y. inr (swept_removable k n p g rest y)) x)
 
 -- a removable function that does not go is used
 used_by : (by : By) (p : Place) (h : Head) → fn_goes by p h ≡ false → removable by.config p h ≡ true → unused (by.row (name_of h)) ≡ false
