@@ -51,10 +51,7 @@ module _ (e : Event) (r : Reference e) where
       let z = only_if (λ (f : Found). In e f.events) (h is export_declaration) (readings a (exported cs)) nothing (λ z. z) y in
       let g = in_readings e a (exported cs) z.1 in
       inl (inl (z.0, (g.0, in_exported g.0 cs g.1, g.2))))
-      (λ y. ⊎_elim (λ z. inr (inl (count_refers cs (inside a h) (left_in (opens h) h cs inner z))))
-      (λ z. ⊎_elim (λ w. inl (inr (subst (λ (es : List Event). In e es) (own_events a h cs) w))) (λ w. inr (inr (count_refers rest a w)))
-      (in_append e mine onward z))
-      (in_append e under (mine ++ onward) y))
+      (λ y. grind (arith, in_append e under (mine ++ onward) y, in_append e mine onward, left_in (opens h) h cs inner, count_refers cs (inside a h), count_refers rest a, own_events a h cs))
       (in_append e before (under ++ (mine ++ onward)) x)
 
 in_left_of : (e : Event) (b : Bool) (h : Head) (cs : Chain) (f : Found) → In e f.events → In e (if b then leave h cs f else f).events

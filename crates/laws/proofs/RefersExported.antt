@@ -4,7 +4,7 @@
 --   Exports, in_exported, exported_in      the records that an Export declaration exports, place by place
 --   treat_exports                          none comes by a removal
 use Rattle.std.specs.Prelude.{if◌then◌else◌}
-use Rattle.std.proofs.Common.{◌≡◌, ℕ, Bool, true, false, ◌||◌, eqb, ◌⊎◌, List, [], inl, inr, ⊎_elim, arith}
+use Rattle.std.proofs.Common.{◌≡◌, ℕ, Bool, true, false, ◌||◌, eqb, ◌⊎◌, List, [], inr, arith}
 use Rattle.std.proofs.lemmas.Bool.Decides.{nat_tests}
 use Rattle.rules.specs.Tree.{Head, Chain, ◌is◌, is_end, after, alone, append}
 use Rattle.rules.specs.Tree.Chain.{end, link}
@@ -90,7 +90,4 @@ module _ (g : Head) where
       (λ _. done_exports by p h cs inner (inner_kept by p h cs s.2) (treat_exports by (place_inside p h) (children_of h) cs s.2)
       (verdict by p h cs inner.chain) (means by p h cs inner.chain))
       (λ _ y. y) in
-      ⊎_elim
-      (λ y. ⊎_elim (λ z. inl z) (λ z. inr (⊎_elim (λ w. inl w) (λ w. absurd w) z)) (first y))
-      (λ y. inr (inr (treat_exports by p (step h.kind ways) rest s.3 y)))
-      (exports_append here.chain (treat by p rest).chain x)
+      grind (arith, first, exports_append here.chain (treat by p rest).chain, treat_exports by p (step h.kind ways) rest s.3)

@@ -56,7 +56,4 @@ module _ (e : Event) where
       (λ _. done_refers by p a h cs inner (inner_kept by p h cs s.2) (λ g. treat_exports g by (place_inside p h) (children_of h) cs s.2)
       (treat_refers by (place_inside p h) (children_of h) cs s.2 (inside a h)) (verdict by p h cs inner.chain) (means by p h cs inner.chain))
       (λ _ y. y) in
-      ⊎_elim
-      (λ y. ⊎_elim (λ z. inl z) (λ z. inr (⊎_elim (λ w. inl w) (λ w. absurd w) z)) (first y))
-      (λ y. inr (inr (treat_refers by p (step h.kind ways) rest s.3 a y)))
-      (refers_append e a here.chain (treat by p rest).chain x)
+      grind (arith, first, refers_append e a here.chain (treat by p rest).chain, treat_refers by p (step h.kind ways) rest s.3 a)
