@@ -29,14 +29,14 @@ rows_declared_alike {c} {d} t [] [] h = record {
   names = declared_names (declared c) (declared d) (λ n. names_turned n t);
   sizes = declared_sizes (declared c) (declared d) (λ n. names_turned n t);
 }
-rows_declared_alike t [] (m ∷ ms) h = let s = h.sizes in let z : ⊥ = omega arith in absurd z
-rows_declared_alike t (n ∷ ns) [] h = let s = h.sizes in let z : ⊥ = omega arith in absurd z
+rows_declared_alike t [] (m ∷ ms) h = absurd (omega (arith, h.sizes))
+rows_declared_alike t (n ∷ ns) [] h = absurd (omega (arith, h.sizes))
 rows_declared_alike t (n ∷ ns) (m ∷ ms) h = h
 
 declared_fit_alike : (space : Room) {c d : Chain} → Turned c d → (held held' : List Name) → HeldAlike held held' → declared_fit space c held ≡ declared_fit space d held'
 declared_fit_alike space {c} {d} t [] [] h = ap (λ (n : ℕ). leb n space.declared) (declared_sizes (declared c) (declared d) (λ n. names_turned n t))
-declared_fit_alike space t [] (m ∷ ms) h = let s = h.sizes in let z : ⊥ = omega arith in absurd z
-declared_fit_alike space t (n ∷ ns) [] h = let s = h.sizes in let z : ⊥ = omega arith in absurd z
+declared_fit_alike space t [] (m ∷ ms) h = absurd (omega (arith, h.sizes))
+declared_fit_alike space t (n ∷ ns) [] h = absurd (omega (arith, h.sizes))
 declared_fit_alike space t (n ∷ ns) (m ∷ ms) h = refl
 
 pub counts_sizes : {c d : Chain} → Turned c d → (length (counts c).names ≡ length (counts d).names) × (length (counts c).edges ≡ length (counts d).edges)
@@ -60,6 +60,6 @@ read_full words (n ∷ ns) q = q
 pub after_sizes : (held held' rows rows' : List Name) (words words' : List ℕ) → length held ≡ length held' → length rows ≡ length rows' → length words ≡ length words'
     → length (declared_after held rows words) ≡ length (declared_after held' rows' words')
 after_sizes [] [] rows rows' words words' h r w = table_sizes declared_width (declared_in_words rows) (declared_in_words rows') words words' (declared_words_sizes rows rows' r) w
-after_sizes [] (m ∷ ms) rows rows' words words' h r w = let z : ⊥ = omega arith in absurd z
-after_sizes (n ∷ ns) [] rows rows' words words' h r w = let z : ⊥ = omega arith in absurd z
+after_sizes [] (m ∷ ms) rows rows' words words' h r w = absurd (omega arith)
+after_sizes (n ∷ ns) [] rows rows' words words' h r w = absurd (omega arith)
 after_sizes (n ∷ ns) (m ∷ ms) rows rows' words words' h r w = w

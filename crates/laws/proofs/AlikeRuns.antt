@@ -21,10 +21,10 @@ use Rattle.rules.specs.Law.{begun_on, outcome_tree, Reordered, BegunAlike, told,
 use Rattle.laws.specs.Parts.{OrderLaw}
 use Rattle.laws.proofs.Runs.{turn}
 use Rattle.laws.proofs.OrderCount.{reached_turned}
-use Rattle.laws.proofs.OrderWords.{table_sizes, declared_read_back}
+use Rattle.laws.proofs.OrderWords.{declared_read_back}
 use Rattle.laws.proofs.OrderTwins.{Twins, reordered_twins}
 use Rattle.laws.proofs.AlikeFilling.{HeldAlike}
-use Rattle.laws.proofs.AlikeStates.{tree, Even, handed_even, cleared_even, Both, Ran, pass_even}
+use Rattle.laws.proofs.AlikeStates.{tree, Even, zeroed_sizes, handed_even, cleared_even, Both, Ran, pass_even}
 
 -- calls that go alike from two trees
 pub record Called (c d : Chain) (x y : After Answer) : Type 0 where
@@ -132,9 +132,9 @@ start_even words others c d b r =
       found_too = r.other ∙ ap (λ (x : Chain). fine x) (sym q);
       twins = subst₂ Twins (sym p) (sym q) (reordered_twins words.tree others.tree c d r);
       size = b.tree;
-      declared = table_sizes declared_width [] [] words.declared others.declared refl b.declared;
-      names = table_sizes names_width [] [] words.names others.names refl b.names;
-      edges = table_sizes edges_width [] [] words.edges others.edges refl b.edges;
+      declared = zeroed_sizes declared_width words.declared others.declared b.declared;
+      names = zeroed_sizes names_width words.names others.names b.names;
+      edges = zeroed_sizes edges_width words.edges others.edges b.edges;
       holds = subst₂ HeldAlike (sym (begun_holds words.declared)) (sym (begun_holds others.declared)) (record { names = λ _. refl; sizes = refl });
       changed = refl;
     }

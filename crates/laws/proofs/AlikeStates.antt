@@ -2,7 +2,7 @@
 -- what they leave tells the same again.
 --
 --   tree, held, Even                    states that tell the same
---   handed_even                         their lengths fit, or do not
+--   handed_even, zeroed_sizes           their lengths fit, or do not; tables of zeros
 --   cleared_even, full_even             after a reset; after a table was full
 --   Both, Ran                           answers that tell the same; calls that go alike
 --   pass_even                           a pass
@@ -52,7 +52,7 @@ handed_even k s u e =
     let few : ℕ → Bool = λ n. leb n most_table_words in
     ap₂ ◌&&◌ (ap tree_fits e.size) (ap₂ ◌&&◌ (ap few e.declared) (ap₂ ◌&&◌ (ap few e.names) (ap (λ (n : ℕ). few n && few (length k.retain)) e.edges)))
 
-zeroed_sizes : (width : ℕ) (words words' : List ℕ) → length words ≡ length words' → length (zeroed width words) ≡ length (zeroed width words')
+pub zeroed_sizes : (width : ℕ) (words words' : List ℕ) → length words ≡ length words' → length (zeroed width words) ≡ length (zeroed width words')
 zeroed_sizes width words words' q = table_sizes width [] [] words words' refl q
 
 pub cleared_even : (s u : State) → Even s u → Even (cleared s) (cleared u)

@@ -1,18 +1,23 @@
 -- Tests, choices, lists and folds as several pages need them.
 --
 --   or_swap, elim_both              tests and choices
+--   swept_both, joined_both         a swept list, joined values
 --   in_append, in_left, in_right    members of one list after another
 --   only_if                         what is there only under a test
 --   each_member, all_member         a fact on each kind of a list
 --   Commutes, fold_swap             folds with steps that commute, whichever of two parts comes first
 use Rattle.std.specs.Prelude.{if◌then◌else◌}
 use Rattle.std.specs.List.{AllByRecursion, list_all, fold}
-use Rattle.std.proofs.Common.{◌≡◌, ℕ, Bool, true, false, ◌||◌, ◌⊎◌, List, [], ◌∷◌, ◌++◌, sym, refl, ap, ◌∙◌, inr, arith}
+use Rattle.std.proofs.Common.{◌≡◌, ℕ, Bool, true, false, ◌&&◌, ◌||◌, ◌⊎◌, List, [], ◌∷◌, ◌++◌, sym, refl, ap, ◌∙◌, inr, arith}
+use Rattle.std.proofs.lemmas.Bool.{cond_both}
 use Rattle.std.proofs.lemmas.List.Elements.{All-from_recursion, All-contains}
 use Rattle.std.proofs.lemmas.List.Folds.{fold_along}
 use Rattle.std.proofs.lemmas.List.Sums.{AllPass-from_list_all}
 use Rattle.std.proofs.lemmas.Map.Views.{Contains-from_any, exact_unsigned_eq}
-use Rattle.rules.specs.Kinds.{member}
+use Rattle.rules.specs.Tree.{Head, Chain, ◌is◌, is_end, after}
+use Rattle.rules.specs.Tree.Chain.{link, end}
+use Rattle.rules.specs.Kinds.{empty_statement, block, plain_expression, member}
+use Rattle.rules.specs.Removal.{swept, become, values, joined}
 use Rattle.rules.specs.Law.{In}
 
 -- TESTS AND CHOICES
@@ -24,6 +29,18 @@ or_swap a b c = grind arith
 pub elim_both : {A : Type 0} (P : A → Type 0) (b : Bool) (x y : A) → (b ≡ true → P x) → (b ≡ false → P y) → P (elim b [ true ↦ x | false ↦ y ])
 elim_both P true x y f g = f refl
 elim_both P false x y f g = g refl
+
+-- a fact on a swept list, by whether its first record goes
+pub swept_both : (P : Chain → Type 0) (h : Head) (cs rest : Chain) → ((h is empty_statement || (h is block && is_end cs)) ≡ true → P (swept rest)) →
+    (P (link h cs (swept rest))) → P (swept (link h cs rest))
+swept_both P h cs rest f g = cond_both (h is empty_statement || (h is block && is_end cs)) (swept rest) (link h cs (swept rest)) P f (λ _. g)
+
+-- a fact on joined values, by whether they are one
+pub joined_both : (P : Chain → Type 0) (d : Head) (parts rest : Chain) → let all = values (link d parts rest) in
+    (is_end (after all) ≡ true → P all) → P (link (become plain_expression d) all end) → P (joined (link d parts rest))
+joined_both P d parts rest f g =
+    let all = values (link d parts rest) in
+    cond_both (is_end (after all)) all (link (become plain_expression d) all end) P f (λ _. g)
 
 -- LISTS
 

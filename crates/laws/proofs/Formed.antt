@@ -7,8 +7,8 @@
 --   maybe_taken, formed_maybe, formed_none       at most one of a sort; none
 --   RecordFormed, FirstFormed, below_formed      a record as the table has it; the first of a chain, and of its children
 --   callee_function, declarator_value, assigned_value      the children of a Function expression, a Declarator and an Assignment
-use Rattle.std.proofs.Common.{◌≡◌, ℕ, Bool, true, false, ◌⊎◌, List, [], ◌∷◌, sym, refl, subst, inl, inr, ⊎_elim}
-use Rattle.std.proofs.lemmas.Bool.{both_ways, cases_Bool, eqb-true, eqb-false}
+use Rattle.std.proofs.Common.{◌≡◌, ℕ, Bool, true, false, ◌⊎◌, List, [], ◌∷◌, refl, subst, inl, inr, arith}
+use Rattle.std.proofs.lemmas.Bool.{both_ways, eqb-true, eqb-false}
 use Rattle.rules.specs.Tree.{Head, Chain, is_end, below, after}
 use Rattle.rules.specs.Tree.Chain.{end, link}
 use Rattle.rules.specs.Kinds.{declarator, function, function_expression, expression, pattern, only}
@@ -21,6 +21,11 @@ abbrev pub first_kind : Chain → ℕ
 first_kind end = 0
 first_kind (link h children rest) = h.kind
 
+-- a record, by the ways on after it
+step_link : (ways onward : List Way) (h : Head) (children rest : Chain) → step h.kind ways ≡ onward → misplaced onward ≡ false → words_fit h ≡ true →
+    Formed (children_of h) children → Formed onward rest → Formed ways (link h children rest)
+step_link ways onward h children rest e m w f r = (w, rw e m, f, rw e r)
+
 -- any number of a sort
 abbrev pub list_of : (ℕ → Bool) → List Way
 list_of sort = (many sort ∷ []) ∷ []
@@ -29,25 +34,21 @@ list_step : (sort : ℕ → Bool) (k : ℕ) → sort k ≡ true → step k (list
 list_step sort k e = rw e
 
 list_taken : (sort : ℕ → Bool) (k : ℕ) → misplaced (step k (list_of sort)) ≡ false → sort k ≡ true
-list_taken sort k e =
-    ⊎_elim (λ x. x) (λ x. absurd (both_ways true (rw x at e) refl)) (cases_Bool (sort k))
+list_taken sort k e = grind arith
 
 -- the first record is of the sort, and the others are such a chain
 pub listed : (sort : ℕ → Bool) (h : Head) (children rest : Chain) → Formed (list_of sort) (link h children rest) → (sort h.kind ≡ true) × Formed (list_of sort) rest
 listed sort h children rest f =
     let e = list_taken sort h.kind f.1 in
-    (e, subst (λ (w : List Way). Formed w rest) (list_step sort h.kind e) f.3)
+    (e, rw (list_step sort h.kind e) at f.3)
 
 -- one more record of the sort
 pub list_link : (sort : ℕ → Bool) (h : Head) (children rest : Chain) → sort h.kind ≡ true → words_fit h ≡ true → Formed (children_of h) children →
     Formed (list_of sort) rest → Formed (list_of sort) (link h children rest)
-list_link sort h children rest e w f r =
-    let same = sym (list_step sort h.kind e) in
-    (w, subst (λ (a : List Way). misplaced a ≡ false) same refl, f, subst (λ (a : List Way). Formed a rest) same r)
+list_link sort h children rest e w f r = step_link (list_of sort) (list_of sort) h children rest (list_step sort h.kind e) refl w f r
 
 one_taken : (sort : ℕ → Bool) (way : Way) (k : ℕ) → misplaced (step k ((one sort ∷ way) ∷ [])) ≡ false → sort k ≡ true
-one_taken sort way k e =
-    ⊎_elim (λ x. x) (λ x. absurd (both_ways true (rw x at e) refl)) (cases_Bool (sort k))
+one_taken sort way k e = grind arith
 
 one_step : (sort : ℕ → Bool) (way : Way) (k : ℕ) → sort k ≡ true → step k ((one sort ∷ way) ∷ []) ≡ way ∷ []
 one_step sort way k e = rw e
@@ -57,17 +58,15 @@ pub formed_one : (sort : ℕ → Bool) (way : Way) (c : Chain) → Formed ((one 
 formed_one sort way end f = absurd (both_ways false refl f)
 formed_one sort way (link h children rest) f =
     let e = one_taken sort way h.kind f.1 in
-    (e, subst (λ (w : List Way). Formed w rest) (one_step sort way h.kind e) f.3)
+    (e, rw (one_step sort way h.kind e) at f.3)
 
 -- a record of the sort, then the way
 pub one_link : (sort : ℕ → Bool) (way : Way) (h : Head) (children rest : Chain) → sort h.kind ≡ true → words_fit h ≡ true → Formed (children_of h) children →
     Formed (way ∷ []) rest → Formed ((one sort ∷ way) ∷ []) (link h children rest)
-one_link sort way h children rest e w f r =
-    let same = sym (one_step sort way h.kind e) in
-    (w, subst (λ (a : List Way). misplaced a ≡ false) same refl, f, subst (λ (a : List Way). Formed a rest) same r)
+one_link sort way h children rest e w f r = step_link ((one sort ∷ way) ∷ []) (way ∷ []) h children rest (one_step sort way h.kind e) refl w f r
 
 pub maybe_taken : (sort : ℕ → Bool) (k : ℕ) → misplaced (step k ((maybe sort ∷ []) ∷ [])) ≡ false → sort k ≡ true
-maybe_taken sort k e = ⊎_elim (λ x. x) (λ x. absurd (both_ways true (rw x at e) refl)) (cases_Bool (sort k))
+maybe_taken sort k e = grind arith
 
 pub formed_maybe : (sort : ℕ → Bool) (c : Chain) → Formed ((maybe sort ∷ []) ∷ []) c → (is_end c ≡ true) ⊎ (sort (first_kind c) ≡ true)
 formed_maybe sort end f = inl refl

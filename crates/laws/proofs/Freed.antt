@@ -6,7 +6,7 @@
 --   taken_unused, gave_unread                     the names taken and given
 use Rattle.std.specs.Prelude.{if◌then◌else◌}
 use Rattle.std.proofs.Common.{◌≡◌, ◌≤◌, Bool, true, false, List, [], ◌∷◌, ◌++◌, sym, refl, ◌∙◌, subst, ⊎_elim, arith}
-use Rattle.std.proofs.lemmas.Bool.{or_left, or_right, false_from_ne_true, cases_Bool}
+use Rattle.std.proofs.lemmas.Bool.{or_left, or_right, false_from_ne_true, true_from_ne_false}
 use Rattle.std.proofs.lemmas.Bool.Decides.{nat_tests}
 use Rattle.rules.specs.Tree.{Head, Chain, Name, flagged, is_end, first_name}
 use Rattle.rules.specs.Tree.Chain.{end, link}
@@ -25,12 +25,6 @@ use Rattle.laws.proofs.RingsDiscount.{open_row}
 use Rattle.laws.proofs.RingsClosed.{closed_edge, closed_entry}
 
 -- ROWS
-
-unused_zero : (r : NameRow) → unused r ≡ true → r.counted ≡ true → (r.usage ≡ 0) × (r.assign ≡ 0)
-unused_zero r g c = grind (arith, nat_tests)
-
-unread_zero : (k : Config) (r : NameRow) → never_read k r ≡ true → r.usage ≡ 0
-unread_zero k r g = grind (arith, nat_tests)
 
 -- the references to a name that is free: it stands in a closed ring, and its references have holders, all of that ring
 pub record HeldInRing (c : Counts) (e : Event) : Type 0 where
@@ -61,18 +55,11 @@ module _ (es : List Event) (e : Event) (r : Reference e) (x : In e es) where
   is_written w = event_row (λ (s : NameRow). 1 ≤ s.assign) (λ v s y. omega arith) e (λ s. rw w (omega arith)) es no_rows x
 
   pub unused_within : unused (look e.name (discount c)) ≡ true → HeldInRing c e
-  unused_within h = ⊎_elim closed_within
-      (λ g.
-      let z = unused_zero (look e.name c.names) (subst (λ (s : NameRow). unused s ≡ true) (open_row c e.name g) h) is_counted in
-      absurd (⊎_elim (λ w. omega (arith, is_written w, z.1)) (λ w. omega (arith, is_read w, z.0)) (cases_Bool e.writes)))
-      (cases_Bool (closed c e.name))
+  unused_within h =
+      closed_within (true_from_ne_false (closed c e.name) (λ g. grind (arith, nat_tests, open_row c e.name g, is_counted, is_read, is_written)))
 
   pub unread_within : (k : Config) → e.writes ≡ false → never_read k (look e.name (discount c)) ≡ true → HeldInRing c e
-  unread_within k w h = ⊎_elim closed_within
-      (λ g.
-      let z = unread_zero k (look e.name c.names) (subst (λ (s : NameRow). never_read k s ≡ true) (open_row c e.name g) h) in
-      absurd (omega (arith, is_read w, z)))
-      (cases_Bool (closed c e.name))
+  unread_within k w h = closed_within (true_from_ne_false (closed c e.name) (λ g. grind (arith, nat_tests, open_row c e.name g, is_read w)))
 
 -- NAMES
 

@@ -5,7 +5,7 @@
 --   occ_in, in_occ, occ_once, once_apart      occurrences, `Numbers` and `Apart`
 --   treat_occ                        no number occurs more often in what is left
 --   keeps_apart, keeps_numbers       the theorems
-use Rattle.std.proofs.Common.{◌≡◌, ℕ, ◌+◌, ◌<◌, ◌≤◌, cond, eqb, refl, arith}
+use Rattle.std.proofs.Common.{ℕ, ◌+◌, ◌<◌, ◌≤◌, cond, eqb, refl, arith}
 use Rattle.std.proofs.lemmas.Bool.Decides.{nat_tests}
 use Rattle.rules.specs.Tree.{Chain}
 use Rattle.rules.specs.Tree.Chain.{end, link}
@@ -30,9 +30,6 @@ occ_in (link h children rest) x l = grind (arith, nat_tests, occ_in children x, 
 in_occ : (c : Chain) (x : ℕ) → Numbers x c → 0 < occ x c
 in_occ end x i = absurd i
 in_occ (link h children rest) x i = grind (arith, nat_tests, in_occ children x, in_occ rest x)
-
-occ_none : (c : Chain) (x : ℕ) → (Numbers x c → ⊥) → occ x c ≡ 0
-occ_none c x out = grind (arith, occ_in c x)
 
 occ_once : (c : Chain) (x : ℕ) → Apart c → occ x c ≤ 1
 occ_once end x a = omega arith

@@ -14,9 +14,8 @@ use Rattle.rules.specs.Removal.{By, Place, at_root, place_inside, entered, Verdi
 use Rattle.rules.specs.Removal.Verdict.{stays, sweeps, empties, unlinks, restates, yields, unwraps}
 use Rattle.rules.proofs.Sounds.{check_sound, check_complete}
 use Rattle.laws.specs.KeepsTree.{KeepsRoot, CheckedAgain}
-use Rattle.laws.proofs.Basics.{each_member}
 use Rattle.laws.proofs.Formed.{formed_one}
-use Rattle.laws.proofs.Verdicts.{Emptying, Unlinking, Means, means, emptying_kinds, emptying_kind}
+use Rattle.laws.proofs.Verdicts.{Unlinking, Means, means, emptied_other}
 use Rattle.laws.proofs.Verdicts.Unlinking.{declares, specifies}
 use Rattle.laws.proofs.KeepsApart.{keeps_apart}
 use Rattle.laws.proofs.KeepsLevel.{keeps_level}
@@ -31,10 +30,6 @@ module _ (by : By) (p : Place) (h : Head) (is_root : a_root h.kind ≡ true) whe
   other : (k : ℕ) → a_root k ≡ false → h.kind ≡ k → ⊥
   other k e s = both_ways (a_root k) e (subst (λ (j : ℕ). a_root j ≡ true) s is_root)
 
-  emptied_other : (found children : Chain) → Emptying p h found children → ⊥
-  emptied_other found children m =
-      both_ways (a_root h.kind) (each_member (λ (k : ℕ). a_root k ≡ false) h.kind emptying_kinds (refl, (refl, (refl, (refl, tt)))) (emptying_kind p h found children m)) is_root
-
   unlinked_other : Unlinking p h → ⊥
   unlinked_other (declares k x) = other _ refl k
   unlinked_other (specifies k) = other _ refl k
@@ -42,7 +37,7 @@ module _ (by : By) (p : Place) (h : Head) (is_root : a_root h.kind ≡ true) whe
   done_root : (found : Chain) (inner : Left) (v : Verdict) → Means by p h found inner.chain v → (remaining : Chain) × ((done v h inner).chain ≡ link h remaining end)
   done_root found inner stays m = (inner.chain, refl)
   done_root found inner sweeps m = (_, refl)
-  done_root found inner (empties names) m = absurd (emptied_other found inner.chain m.which)
+  done_root found inner (empties names) m = absurd (emptied_other a_root refl p h found inner.chain is_root m.which)
   done_root found inner (unlinks name) m = absurd (unlinked_other m.which)
   done_root found inner restates m = absurd (other _ refl m.kind)
   done_root found inner (yields name) m = absurd (other _ refl m.kind)

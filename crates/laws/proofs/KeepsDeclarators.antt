@@ -9,18 +9,19 @@
 --   kept_valued, restated_formed   one that stays although its name can go has a value; what a Var becomes has its child
 use Rattle.std.proofs.Common.{◌≡◌, Bool, true, false, List, [], ◌∷◌, sym, refl, subst, arith}
 use mathlib.Core.Bool.{or-false}
-use Rattle.std.proofs.lemmas.Bool.{cond_both, both_ways, and_parts, eqb-true}
+use Rattle.std.proofs.lemmas.Bool.{eq-eqb, both_ways, and_parts, eqb-true}
 use Rattle.std.proofs.lemmas.Bool.Decides.{nat_tests}
 use Rattle.rules.specs.Tree.{Head, Chain, flagged, is_end, after, alone, append}
 use Rattle.rules.specs.Tree.Chain.{end, link}
-use Rattle.rules.specs.Kinds.{var_declaration, declarator, plain_expression, expression, pattern, only}
+use Rattle.rules.specs.Kinds.{var_declaration, declarator, expression, pattern, only}
 use Rattle.rules.specs.Grammar.{Way}
 use Rattle.rules.specs.Grammar.Part.{one, maybe}
 use Rattle.rules.specs.Held.{Formed}
-use Rattle.rules.specs.Removal.{By, Place, place_inside, first_acts, has_list, entered, name_goes, all_go, declarator_goes, Verdict, verdict, become, values, joined, Left, done, treated, treat}
+use Rattle.rules.specs.Removal.{By, Place, place_inside, first_acts, has_list, entered, name_goes, all_go, declarator_goes, Verdict, verdict, values, joined, Left, done, treated, treat}
 use Rattle.rules.specs.Removal.Verdict.{stays, sweeps, empties, unlinks, restates, yields, unwraps}
+use Rattle.laws.proofs.Basics.{joined_both}
 use Rattle.laws.proofs.Formed.{list_of, listed, list_link, formed_one, one_link, maybe_taken, binding_ways, declarator_children}
-use Rattle.laws.proofs.Verdicts.{Emptying, Unlinking, Restated, Means, means, emptying_kind}
+use Rattle.laws.proofs.Verdicts.{Unlinking, Restated, Means, means, emptied_other}
 use Rattle.laws.proofs.Verdicts.Unlinking.{declares, specifies}
 use Rattle.laws.proofs.KeepsTable.{declarators}
 
@@ -34,9 +35,6 @@ pub data DeclaratorLeft (by : By) (p : Place) (h : Head) (children left : Chain)
   gone : left ≡ end → p.in_export ≡ false → DeclaratorLeft by p h children left
 
 module _ (by : By) (p : Place) (h : Head) (k : h.kind ≡ declarator) where
-  emptied_other : (found children : Chain) → Emptying p h found children → ⊥
-  emptied_other found children m = both_ways false refl (rw k at (emptying_kind p h found children m))
-
   unlinked_inward : Unlinking p h → p.in_export ≡ false
   unlinked_inward (declares e x) = x
   unlinked_inward (specifies e) = absurd (omega arith)
@@ -44,7 +42,7 @@ module _ (by : By) (p : Place) (h : Head) (k : h.kind ≡ declarator) where
   done_declarator : (found : Chain) (inner : Left) (v : Verdict) → Means by p h found inner.chain v → DeclaratorLeft by p h inner.chain (done v h inner).chain
   done_declarator found inner stays m = kept refl m.bound
   done_declarator found inner sweeps m = absurd (both_ways (has_list h) (rw k) m)
-  done_declarator found inner (empties names) m = absurd (emptied_other found inner.chain m.which)
+  done_declarator found inner (empties names) m = absurd (emptied_other (only declarator) refl p h found inner.chain (eq-eqb h.kind declarator k) m.which)
   done_declarator found inner (unlinks name) m = gone refl (unlinked_inward m.which)
   done_declarator found inner restates m = absurd (omega (arith, m.kind))
   done_declarator found inner (yields name) m = absurd (omega (arith, m.kind))
@@ -64,7 +62,7 @@ exported_filled by p x (link h children rest) f e =
     let inner = treat by (place_inside p h) children in
     let onward = (treat by p rest).chain in
     elim (declarator_left by p h k children (is_end rest) inner) [
-      | kept left bound ↦ subst (λ (d : Chain). is_end (append d onward) ≡ false) (sym left) refl
+      | kept left bound ↦ rw left
       | gone left inward ↦ absurd (both_ways p.in_export inward x)
     ]
 
@@ -82,8 +80,8 @@ first_kept by p (link h children rest) f =
     let onward = (treat by p rest).chain in
     let i = first_kept by p rest l.1 in
     elim (declarator_left by p h k children (is_end rest) inner) [
-      | kept left bound ↦ subst (λ (d : Chain). FirstKept by p (append d onward)) (sym left) (k, bound)
-      | gone left inward ↦ subst (λ (d : Chain). FirstKept by p (append d onward)) (sym left) i
+      | kept left bound ↦ rw left (k, bound)
+      | gone left inward ↦ rw left i
     ]
 
 -- the value of a Declarator, before other expressions
@@ -117,9 +115,8 @@ joined_formed : (d : Head) (parts rest : Chain) → is_end (after parts) ≡ fal
 joined_formed d parts rest e f =
     let all = values (link d parts rest) in
     let g = values_formed (link d parts rest) f in
-    cond_both (is_end (after all)) all (link (become plain_expression d) all end) (λ (c : Chain). Formed ((one expression ∷ []) ∷ []) c)
-    (λ last. single_formed all (append_filled (after parts) (values rest) e) last g)
-    (λ _. (refl, refl, g, refl))
+    joined_both (λ (c : Chain). Formed ((one expression ∷ []) ∷ []) c) d parts rest
+    (λ last. single_formed all (append_filled (after parts) (values rest) e) last g) (refl, refl, g, refl)
 
 -- what acts is there
 acts_filled : (by : By) (c : Chain) → first_acts by c ≡ true → is_end c ≡ false
@@ -131,14 +128,15 @@ name_inside : (by : By) (p : Place) (h : Head) (parts : Chain) → h.kind ≡ va
     name_goes by (place_inside p h) (place_inside p h).in_var parts ≡ name_goes by p (flagged h) parts
 name_inside by p h parts k = rw (k, or-false p.in_fn, or-false p.in_block_stmt)
 
-inward_inside : (p : Place) (h : Head) → h.kind ≡ var_declaration → p.in_export ≡ false → (place_inside p h).in_export ≡ false
-inward_inside p h k x = rw (k, x)
+-- the Declarators of an exported Var are exported, and no others
+pub var_inside : (p : Place) (h : Head) → h.kind ≡ var_declaration → (place_inside p h).in_export ≡ p.in_export
+var_inside p h k = grind (arith, nat_tests)
 
 -- a Declarator that stays although its name can go has a value
 kept_valued : (by : By) (p : Place) (h d : Head) (parts : Chain) → h.kind ≡ var_declaration → p.in_export ≡ false → d.kind ≡ declarator →
     declarator_goes by (place_inside p h) d parts ≡ false → name_goes by p (flagged h) parts ≡ true → is_end (after parts) ≡ false
 kept_valued by p h d parts k x kd stayed goes =
-    grind (arith, nat_tests, acts_filled by (after parts), name_inside by p h parts k, inward_inside p h k x)
+    grind (arith, nat_tests, acts_filled by (after parts), name_inside by p h parts k, var_inside p h k)
 
 -- what a Var becomes has its child
 pub restated_formed : (by : By) (p : Place) (h : Head) (c : Chain) → Restated by p h c → FirstKept by (place_inside p h) c → Formed declarators c →

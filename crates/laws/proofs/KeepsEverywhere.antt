@@ -5,13 +5,13 @@
 --   Everywhere                          such a fact
 --   all_append .. all_wrapped           the pieces that are moved
 --   done_all, treat_all                 one record; a chain
-use Rattle.std.proofs.Common.{ℕ, suc, Bool, true, false, ◌&&◌, ◌||◌}
-use Rattle.std.proofs.lemmas.Bool.{cond_both}
-use Rattle.rules.specs.Tree.{Head, Chain, ◌is◌, is_end, below, after, alone, append}
+use Rattle.std.proofs.Common.{ℕ, suc, Bool, true, false}
+use Rattle.rules.specs.Tree.{Head, Chain, is_end, below, after, alone, append}
 use Rattle.rules.specs.Tree.Chain.{end, link}
-use Rattle.rules.specs.Kinds.{empty_statement, block, expression_statement, plain_expression}
+use Rattle.rules.specs.Kinds.{empty_statement, expression_statement, plain_expression}
 use Rattle.rules.specs.Removal.{By, Place, place_inside, entered, swept, wrapped_object, Verdict, verdict, become, values, joined, Left, done, treated, treat}
 use Rattle.rules.specs.Removal.Verdict.{stays, sweeps, empties, unlinks, restates, yields, unwraps}
+use Rattle.laws.proofs.Basics.{swept_both, joined_both}
 
 -- `all n c`: each record of the chain c, which is nested n deep, has the fact
 pub record Everywhere (each : ℕ → Head → Type 0) (all : ℕ → Chain → Type 0) : Type 0 where
@@ -47,8 +47,7 @@ module _ (each : ℕ → Head → Type 0) (all : ℕ → Chain → Type 0) (w : 
   all_swept n end l = l
   all_swept n (link h children rest) l =
       let s = all_swept n rest (w.others n h children rest l) in
-      cond_both (h is empty_statement || (h is block && is_end children)) (swept rest) (link h children (swept rest)) (all n)
-      (λ _. s) (λ _. w.more n h children (swept rest) (w.first n h children rest l) (w.inner n h children rest l) s)
+      swept_both (all n) h children rest (λ _. s) (w.more n h children (swept rest) (w.first n h children rest l) (w.inner n h children rest l) s)
 
   -- the values of Declarators at n stand at n + 1
   all_values : (n : ℕ) (c : Chain) → all n c → all (suc n) (values c)
@@ -59,10 +58,9 @@ module _ (each : ℕ → Head → Type 0) (all : ℕ → Chain → Type 0) (w : 
   all_joined : (n : ℕ) (c : Chain) → all n c → all n (joined c)
   all_joined n end l = l
   all_joined n (link d parts rest) l =
-      let values_of = values (link d parts rest) in
+      let together = values (link d parts rest) in
       let m = all_values n (link d parts rest) l in
-      cond_both (is_end (after values_of)) values_of (link (become plain_expression d) values_of end) (all n)
-      (λ _. w.up n values_of m) (λ _. w.more n (become plain_expression d) values_of end (w.plain n d (w.first n d parts rest l)) m (w.none n))
+      joined_both (all n) d parts rest (λ _. w.up n together m) (w.more n (become plain_expression d) together end (w.plain n d (w.first n d parts rest l)) m (w.none n))
 
   all_wrapped : (n : ℕ) (c : Chain) → all n c → all n (wrapped_object c)
   all_wrapped n c l = all_below n (below (below (below c))) (all_below n (below (below c)) (all_below n (below c) (all_below n c l)))

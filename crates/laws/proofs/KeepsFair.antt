@@ -93,13 +93,11 @@ fair_cond ks b way f = grind arith
 
 pub fair_on : (ks : List ℕ) (k : ℕ) (way : Way) → fair_way ks way ≡ true → fair ks (go_on k way) ≡ true
 fair_on ks k [] f = refl
-fair_on ks k (one sort ∷ way) f = fair_cond ks (sort k) way (fair_tail ks (one sort) way f)
+fair_on ks k (one sort ∷ way) f = grind (arith, fair_tail ks (one sort) way)
 fair_on ks k (maybe sort ∷ way) f =
-    let t = fair_tail ks (maybe sort) way f in
-    fair_append ks (if sort k then way ∷ [] else []) (go_on k way) (fair_cond ks (sort k) way t) (fair_on ks k way t)
+    grind (arith, fair_tail ks (maybe sort) way, fair_append ks (if sort k then way ∷ [] else []) (go_on k way), fair_on ks k way)
 fair_on ks k (many sort ∷ way) f =
-    fair_append ks (if sort k then (many sort ∷ way) ∷ [] else []) (go_on k way) (fair_cond ks (sort k) (many sort ∷ way) f)
-    (fair_on ks k way (fair_tail ks (many sort) way f))
+    grind (arith, fair_tail ks (many sort) way, fair_append ks (if sort k then (many sort ∷ way) ∷ [] else []) (go_on k way), fair_on ks k way)
 
 pub fair_step : (ks : List ℕ) (k : ℕ) (ways : List Way) → fair ks ways ≡ true → fair ks (step k ways) ≡ true
 fair_step ks k [] f = refl

@@ -7,7 +7,7 @@
 --   done_formed                                       what is left of one record, and what follows
 --   entered_last, var_inward                          a Var that is entered in a For, and one that lost its Declarators
 --   treat_formed, inner_kept, keeps_formed            a chain; a record's children; the theorem
-use Rattle.std.proofs.Common.{◌≡◌, ℕ, Bool, true, false, List, [], ◌∷◌, sym, refl, subst, arith}
+use Rattle.std.proofs.Common.{◌≡◌, ℕ, Bool, true, false, List, [], ◌∷◌, sym, refl, ◌∙◌, subst, arith}
 use Rattle.std.proofs.lemmas.Bool.{both_ways, false_from_ne_true, eqb-false}
 use Rattle.std.proofs.lemmas.Bool.Decides.{nat_tests}
 use Rattle.rules.specs.Tree.{Head, Chain, is_end, below, after, alone, append}
@@ -28,7 +28,7 @@ use Rattle.laws.proofs.KeepsFair.{stand_ins}
 use Rattle.laws.proofs.KeepsTable.{declarators, Bears, bears_fair, inner_ways, bears_inside, Stands, swap_moving, swap_declaring, drop_formed, swap_var}
 use Rattle.laws.proofs.KeepsTable.Bears.{anywhere}
 use Rattle.laws.proofs.KeepsLists.{swept_formed, inner_formed, children_formed}
-use Rattle.laws.proofs.KeepsDeclarators.{exported_filled, FirstKept, first_kept, restated_formed}
+use Rattle.laws.proofs.KeepsDeclarators.{exported_filled, var_inside, FirstKept, first_kept, restated_formed}
 
 -- such a record stands where its kind may
 put : (ways : List Way) (h : Head) (children onward : Chain) → RecordFormed h children → Stands ways h.kind onward → Formed ways (link h children onward)
@@ -107,10 +107,6 @@ end_last : (by : By) (p : Place) (c : Chain) → is_end c ≡ true → (treat by
 end_last by p end e = refl
 end_last by p (link h children rest) e = absurd (both_ways false refl e)
 
--- the Declarators of an exported Var are exported
-export_inside : (p : Place) (h : Head) → h.kind ≡ var_declaration → p.in_export ≡ true → (place_inside p h).in_export ≡ true
-export_inside p h k x = rw (k, x)
-
 -- an exported Var keeps a Declarator
 var_inward : (by : By) (p : Place) (h : Head) (children : Chain) → Formed (children_of h) children → h.kind ≡ var_declaration →
     is_end (treat by (place_inside p h) children).chain ≡ true → p.in_export ≡ false
@@ -118,7 +114,7 @@ var_inward by p h children f k e =
     let q = place_inside p h in
     let g : Formed declarators children = rw k at (inner_formed h children f) in
     false_from_ne_true p.in_export
-    (λ x. both_ways (is_end (treat by q children).chain) (exported_filled by q (export_inside p h k x) children g (formed_filled (children_of h) children (rw k) f)) e)
+    (λ x. both_ways (is_end (treat by q children).chain) (exported_filled by q (var_inside p h k ∙ x) children g (formed_filled (children_of h) children (rw k) f)) e)
 
 treat_formed : (by : By) (p : Place) (ways : List Way) (c : Chain) → Bears p ways → Formed ways c → Formed ways (treat by p c).chain
 treat_formed by p ways end ready f = f

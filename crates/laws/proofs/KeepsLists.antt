@@ -2,15 +2,16 @@
 --
 --   swept_formed                    sweeping
 --   inner_formed, children_formed   a record's children as they are treated, and as the table has them
-use Rattle.std.proofs.Common.{◌≡◌, ℕ, Bool, true, false, ◌&&◌, ◌||◌, List, [], ◌∷◌, sym, refl, subst, ⊎_elim, arith}
+use Rattle.std.proofs.Common.{◌≡◌, ℕ, Bool, true, false, List, [], ◌∷◌, sym, refl, subst, ⊎_elim, arith}
 use Rattle.std.proofs.lemmas.Bool.{cond_both, cond-false, both_ways, cases_Bool, eqb-true}
 use Rattle.rules.specs.Tree.{Head, Chain, ◌is◌, is_end}
 use Rattle.rules.specs.Tree.Chain.{end, link}
-use Rattle.rules.specs.Kinds.{empty_statement, block, var_declaration, declarator, only}
+use Rattle.rules.specs.Kinds.{var_declaration, declarator, only}
 use Rattle.rules.specs.Grammar.{Way, children_of}
 use Rattle.rules.specs.Grammar.Part.{one, many}
 use Rattle.rules.specs.Held.{Formed}
 use Rattle.rules.specs.Removal.{swept, var_emptied}
+use Rattle.laws.proofs.Basics.{swept_both}
 use Rattle.laws.proofs.Formed.{list_of, listed, list_link, formed_one, one_link}
 use Rattle.laws.proofs.KeepsTable.{declarators, inner_ways}
 
@@ -19,8 +20,7 @@ swept_formed sort end f = f
 swept_formed sort (link h children rest) f =
     let l = listed sort h children rest f in
     let s = swept_formed sort rest l.1 in
-    cond_both (h is empty_statement || (h is block && is_end children)) (swept rest) (link h children (swept rest)) (λ (d : Chain). Formed (list_of sort) d)
-    (λ _. s) (λ _. list_link sort h children (swept rest) l.0 f.0 f.2 s)
+    swept_both (λ (d : Chain). Formed (list_of sort) d) h children rest (λ _. s) (list_link sort h children (swept rest) l.0 f.0 f.2 s)
 
 -- a Var's children as the table has them
 abbrev var_ways : List Way

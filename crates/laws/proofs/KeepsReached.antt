@@ -6,13 +6,13 @@
 --   fewer_reached                          no more are left
 --   done_lost, lost_reached                fewer are left where something was removed: one record; a chain
 use Rattle.std.proofs.Common.{◌≡◌, ◌+◌, ◌<◌, ◌≤◌, Bool, true, false, refl, ⊎_elim, arith}
-use Rattle.std.proofs.lemmas.Bool.{cond_both, and_parts, both_ways, or_cases}
+use Rattle.std.proofs.lemmas.Bool.{both_ways, or_cases}
 use Rattle.rules.specs.Tree.{Head, Chain, flagged, is_end, after, first_is, alone, reached}
 use Rattle.rules.specs.Tree.Chain.{end, link}
-use Rattle.rules.specs.Kinds.{plain_expression, name_pattern}
+use Rattle.rules.specs.Kinds.{name_pattern}
 use Rattle.rules.specs.Grammar.{children_of, step, may_end}
 use Rattle.rules.specs.Held.{Formed}
-use Rattle.rules.specs.Removal.{By, Place, place_inside, entered, name_goes, all_go, wrapped_object, Verdict, verdict, become, values, joined, Left, done, treated, treat}
+use Rattle.rules.specs.Removal.{By, Place, place_inside, entered, all_go, wrapped_object, Verdict, verdict, values, joined, Left, done, treated, treat}
 use Rattle.rules.specs.Removal.Verdict.{stays, sweeps, empties, unlinks, restates, yields, unwraps}
 use Rattle.laws.specs.KeepsTree.{FewerReached, LostReached}
 use Rattle.laws.proofs.Verdicts.{Emptying, Means, means}
@@ -37,11 +37,10 @@ reached_restated : (by : By) (p : Place) (is_var : Bool) (c : Chain) → is_end 
 reached_restated by p is_var end e g = absurd (both_ways true e refl)
 reached_restated by p is_var (link d parts rest) e g =
     let all = values (link d parts rest) in
-    let name = (and_parts (first_is name_pattern parts) _ (and_parts (name_goes by p is_var parts) (all_go by p is_var rest) g).0).0 in
+    let name : first_is name_pattern parts ≡ true = grind arith in
     let fewer : reached all < reached parts + reached rest
     = omega (arith, sum_append records (alone (after parts)) (values rest), sum_alone records (after parts), named_reached parts name, sum_values records rest) in
-    cond_both (is_end (after all)) all (link (become plain_expression d) all end) (λ (x : Chain). reached x < reached (link d parts rest))
-    (λ _. omega arith) (λ _. omega arith)
+    grind (arith, fewer)
 
 children_filled : (h : Head) (c : Chain) → may_end (children_of h) ≡ false → Formed (children_of h) c → 1 ≤ reached c
 children_filled h c e f = filled_reached c (formed_filled (children_of h) c e f)

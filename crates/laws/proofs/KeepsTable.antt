@@ -9,18 +9,18 @@
 --   inner_ways, bears_inside           the ways of a record's children, while they are treated; these do too
 --   swap_moving, swap_declaring, swap_var, drop_formed      what gives way to a stand-in, or is unlinked, leaves the chain formed
 use Rattle.std.specs.Prelude.{if◌then◌else◌}
-use Rattle.std.proofs.Common.{◌≡◌, ℕ, true, false, ◌||◌, eqb, List, [], ◌∷◌, sym, refl, subst}
-use Rattle.std.proofs.lemmas.Bool.{cond_both, both_ways, or_left, or_right, eqb-true}
-use Rattle.rules.specs.Tree.{Head, Chain, ◌is◌, flagged}
+use Rattle.std.proofs.Common.{◌≡◌, ℕ, true, false, List, [], ◌∷◌, refl, inl, inr, arith}
+use Rattle.std.proofs.lemmas.Bool.{cond_both, cases_Bool, both_ways, or_left, eqb-true}
+use Rattle.rules.specs.Tree.{Head, Chain, ◌is◌}
 use Rattle.rules.specs.Tree.Chain.{end}
-use Rattle.rules.specs.Kinds.{module_root, script_root, import_item, export_declaration, export_list, export_default, block, expression_statement, plain_statement, try_statement, fn_declaration, class_declaration, var_declaration, for_statement, with_statement, catch_part, declarator, function, class_body, method, property, static_block, constructor, function_expression, class_expression, arrow, plain_expression, object, call_expression, delete_expression, assignment, name_pattern, compound_pattern, default_pattern, property_name, expression_pattern, member, within, expression, statement, declaration, for_head, only}
-use Rattle.rules.specs.Grammar.{Way, item_children, statement_children, part_children, expression_children, pattern_children, try_children, children_of, go_on, step, misplaced}
+use Rattle.rules.specs.Kinds.{import_item, export_declaration, fn_declaration, class_declaration, var_declaration, for_statement, declarator, call_expression, assignment, member, expression, statement, declaration, for_head, only}
+use Rattle.rules.specs.Grammar.{Way, item_children, statement_children, part_children, expression_children, pattern_children, children_of, step, misplaced}
 use Rattle.rules.specs.Grammar.Part.{one, maybe, many}
 use Rattle.rules.specs.Held.{Formed}
 use Rattle.rules.specs.Removal.{Place, place_inside}
 use Rattle.laws.proofs.Basics.{each_member}
 use Rattle.laws.proofs.KeepsWays.{Within, within_placed, formed_within}
-use Rattle.laws.proofs.KeepsFair.{stand_ins, unlinkable, fair, fair_append, fair_cond, fair_on, fair_step, fair_swap, fair_drop}
+use Rattle.laws.proofs.KeepsFair.{stand_ins, unlinkable, fair_way, fair, fair_step, fair_swap, fair_drop}
 
 -- the kinds that give way, in an Export declaration too
 abbrev pub moving : List ℕ
@@ -57,89 +57,51 @@ pub data Bears (p : Place) (ways : List Way) : Type 0 where
   at_export : p.in_export ≡ true → ways ≡ export_ways → Bears p ways
 
 for_fair : (k : ℕ) → fair giving_way (step k for_ways) ≡ true
-for_fair k =
-    fair_append giving_way (go_on k (maybe for_head ∷ for_parts)) []
-    (fair_append giving_way (if for_head k then for_parts ∷ [] else []) (go_on k for_parts)
-    (fair_cond giving_way (for_head k) for_parts refl) (fair_on giving_way k for_parts refl))
-    refl
+for_fair k = grind arith
 
 export_fair : (k : ℕ) → fair giving_way (step k export_ways) ≡ true
-export_fair k = fair_append giving_way (if declaration k then [] ∷ [] else []) [] (fair_cond giving_way (declaration k) [] refl) refl
+export_fair k = grind arith
 
 pub bears_fair : (p : Place) (k : ℕ) (ways : List Way) → Bears p ways → fair giving_way (step k ways) ≡ true
 bears_fair p k ways (anywhere f) = fair_step giving_way k ways f
-bears_fair p k ways (at_for a e) = subst (λ (w : List Way). fair giving_way (step k w) ≡ true) (sym e) (for_fair k)
-bears_fair p k ways (at_export a e) = subst (λ (w : List Way). fair giving_way (step k w) ≡ true) (sym e) (export_fair k)
+bears_fair p k ways (at_for a e) = rw e (for_fair k)
+bears_fair p k ways (at_export a e) = rw e (export_fair k)
 
 -- the ways of a record's children, while they are treated
 abbrev pub inner_ways : Head → List Way
 inner_ways h = if h is var_declaration then declarators else children_of h
 
-module _ (p : Place) (h : Head) (other : h is var_declaration ≡ false) where
-  -- one way of h's children
-  abbrev WayBears : Way → Type 0
-  WayBears way = Bears (place_inside p h) (way ∷ [])
+-- the children of h, which is no Export declaration, no Var and no For
+module _ (h : Head) (no_export : h is export_declaration ≡ false) (no_var : h is var_declaration ≡ false) (no_for : h is for_statement ≡ false) where
+  item_fair : fair_way giving_way (item_children h) ≡ true
+  item_fair = grind arith
 
-  item_bears : WayBears (item_children h)
-  item_bears =
-      cond_both (h is module_root) _ _ WayBears (λ _. anywhere refl) (λ _.
-      cond_both (h is script_root) _ _ WayBears (λ _. anywhere refl) (λ _.
-      cond_both (h is import_item) _ _ WayBears (λ _. anywhere refl) (λ _.
-      cond_both (h is export_declaration) _ _ WayBears (λ x. at_export (or_left (h is export_declaration) _ x) refl) (λ _.
-      cond_both (h is export_list) _ _ WayBears (λ _. anywhere refl) (λ _.
-      cond_both (h is export_default) _ _ WayBears (λ _. anywhere refl) (λ _. anywhere refl))))))
+  statement_fair : fair_way giving_way (statement_children h) ≡ true
+  statement_fair = grind arith
 
-  statement_bears : WayBears (statement_children h)
-  statement_bears =
-      cond_both (h is block) _ _ WayBears (λ _. anywhere refl) (λ _.
-      cond_both (h is expression_statement) _ _ WayBears (λ _. anywhere refl) (λ _.
-      cond_both (h is plain_statement) _ _ WayBears (λ _. cond_both (flagged h) _ _ WayBears (λ _. anywhere refl) (λ _. anywhere refl)) (λ _.
-      cond_both (h is fn_declaration) _ _ WayBears (λ _. anywhere refl) (λ _.
-      cond_both (h is class_declaration) _ _ WayBears (λ _. anywhere refl) (λ _.
-      cond_both (h is var_declaration) _ _ WayBears (λ x. absurd (both_ways (h is var_declaration) other x)) (λ _.
-      cond_both (h is for_statement) _ _ WayBears (λ x. at_for (eqb-true h.kind for_statement x) refl) (λ _.
-      cond_both (h is with_statement) _ _ WayBears (λ _. anywhere refl) (λ _. anywhere refl))))))))
+  part_fair : fair_way giving_way (part_children h) ≡ true
+  part_fair = grind arith
 
-  part_bears : WayBears (part_children h)
-  part_bears =
-      cond_both (h is catch_part) _ _ WayBears (λ _. anywhere refl) (λ _.
-      cond_both (h is declarator) _ _ WayBears (λ _. anywhere refl) (λ _.
-      cond_both (h is function || h is constructor) _ _ WayBears (λ _. anywhere refl) (λ _.
-      cond_both (h is class_body) _ _ WayBears (λ _. cond_both (flagged h) _ _ WayBears (λ _. anywhere refl) (λ _. anywhere refl)) (λ _.
-      cond_both (h is method) _ _ WayBears (λ _. cond_both (flagged h) _ _ WayBears (λ _. anywhere refl) (λ _. anywhere refl)) (λ _.
-      cond_both (h is property) _ _ WayBears (λ _. cond_both (flagged h) _ _ WayBears (λ _. anywhere refl) (λ _. anywhere refl)) (λ _.
-      cond_both (h is static_block) _ _ WayBears (λ _. anywhere refl) (λ _. anywhere refl)))))))
+  expression_fair : fair_way giving_way (expression_children h) ≡ true
+  expression_fair = grind arith
 
-  expression_bears : WayBears (expression_children h)
-  expression_bears =
-      cond_both (h is function_expression) _ _ WayBears (λ _. anywhere refl) (λ _.
-      cond_both (h is class_expression) _ _ WayBears (λ _. anywhere refl) (λ _.
-      cond_both (h is arrow) _ _ WayBears (λ _. anywhere refl) (λ _.
-      cond_both (h is plain_expression || h is object) _ _ WayBears (λ _. anywhere refl) (λ _.
-      cond_both (h is call_expression) _ _ WayBears (λ _. anywhere refl) (λ _.
-      cond_both (h is delete_expression) _ _ WayBears (λ _. anywhere refl) (λ _.
-      cond_both (h is assignment) _ _ WayBears (λ _. anywhere refl) (λ _. anywhere refl)))))))
+  pattern_fair : fair_way giving_way (pattern_children h) ≡ true
+  pattern_fair = grind arith
 
-  pattern_bears : WayBears (pattern_children h)
-  pattern_bears =
-      cond_both (h is compound_pattern) _ _ WayBears (λ _. anywhere refl) (λ _.
-      cond_both (h is default_pattern) _ _ WayBears (λ _. anywhere refl) (λ _.
-      cond_both (h is property_name) _ _ WayBears (λ _. anywhere refl) (λ _.
-      cond_both (h is expression_pattern) _ _ WayBears (λ _. anywhere refl) (λ _. anywhere refl))))
-
-  children_bears : Bears (place_inside p h) (children_of h)
-  children_bears =
-      let P = λ (ways : List Way). Bears (place_inside p h) ways in
-      cond_both (h is try_statement) try_children _ P (λ _. anywhere refl) (λ _.
-      cond_both (statement h.kind) (statement_children h ∷ []) _ P (λ _. statement_bears) (λ _.
-      cond_both (within catch_part constructor h.kind) (part_children h ∷ []) _ P (λ _. part_bears) (λ _.
-      cond_both (expression h.kind) (expression_children h ∷ []) _ P (λ _. expression_bears) (λ _.
-      cond_both (within name_pattern expression_pattern h.kind) (pattern_children h ∷ []) (item_children h ∷ []) P (λ _. pattern_bears) (λ _. item_bears)))))
+  children_fair : fair giving_way (children_of h) ≡ true
+  children_fair = grind (arith, item_fair, statement_fair, part_fair, expression_fair, pattern_fair)
 
 pub bears_inside : (p : Place) (h : Head) → Bears (place_inside p h) (inner_ways h)
 bears_inside p h =
-    cond_both (h is var_declaration) declarators (children_of h) (λ (ways : List Way). Bears (place_inside p h) ways)
-    (λ _. anywhere refl) (λ other. children_bears p h other)
+    let P = λ (ways : List Way). Bears (place_inside p h) ways in
+    cond_both (h is var_declaration) declarators (children_of h) P (λ _. anywhere refl) (λ no_var.
+    elim (cases_Bool (h is export_declaration)) [
+      | inl x ↦ at_export (or_left (h is export_declaration) _ x) (rw (eqb-true h.kind export_declaration x))
+      | inr no_export ↦ elim (cases_Bool (h is for_statement)) [
+        | inl x ↦ at_for (eqb-true h.kind for_statement x) (rw (eqb-true h.kind for_statement x))
+        | inr no_for ↦ anywhere (children_fair h no_export no_var no_for)
+      ]
+    ])
 
 -- a record of kind m stands, and what follows is formed
 abbrev pub Stands : List Way → (m : ℕ) → (onward : Chain) → Type 0
@@ -156,22 +118,22 @@ stands_fair ks ways k m d among stands f = stands_within ways k m d (fair_swap k
 module _ (p : Place) (ways : List Way) (d : Chain) where
   pub swap_moving : (k m : ℕ) → member k moving ≡ true → member m (stand_ins k) ≡ true → Bears p ways → Stands ways k d → Stands ways m d
   swap_moving k m among stands (anywhere f) =
-      stands_fair giving_way ways k m d (or_right (eqb k var_declaration) _ (or_right (eqb k fn_declaration) _ (or_right (eqb k class_declaration) _ among))) stands f
+      stands_fair giving_way ways k m d (grind (arith, among)) stands f
   swap_moving k m among stands (at_for a e) =
-      stands_fair declaring ways k m d (or_right (eqb k fn_declaration) _ (or_right (eqb k class_declaration) _ among)) stands
-      (subst (λ (w : List Way). fair declaring w ≡ true) (sym e) refl)
+      stands_fair declaring ways k m d (grind (arith, among)) stands
+      (rw e)
   swap_moving k m among stands (at_export a e) =
-      stands_fair moving ways k m d among stands (subst (λ (w : List Way). fair moving w ≡ true) (sym e) refl)
+      stands_fair moving ways k m d among stands (rw e)
 
   pub swap_declaring : (k m : ℕ) → member k declaring ≡ true → member m (stand_ins k) ≡ true → p.in_export ≡ false → Bears p ways → Stands ways k d → Stands ways m d
-  swap_declaring k m among stands x (anywhere f) = stands_fair giving_way ways k m d (or_right (eqb k var_declaration) _ among) stands f
-  swap_declaring k m among stands x (at_for a e) = stands_fair declaring ways k m d among stands (subst (λ (w : List Way). fair declaring w ≡ true) (sym e) refl)
+  swap_declaring k m among stands x (anywhere f) = stands_fair giving_way ways k m d (grind (arith, among)) stands f
+  swap_declaring k m among stands x (at_for a e) = stands_fair declaring ways k m d among stands (rw e)
   swap_declaring k m among stands x (at_export a e) = absurd (both_ways p.in_export x a)
 
   pub drop_formed : (k : ℕ) → member k unlinkable ≡ true → Bears p ways → Formed (step k ways) d → Formed ways d
   drop_formed k gone (anywhere f) = formed_within d (fair_drop giving_way k gone ways f)
-  drop_formed k gone (at_for a e) = formed_within d (fair_drop declaring k gone ways (subst (λ (w : List Way). fair declaring w ≡ true) (sym e) refl))
-  drop_formed k gone (at_export a e) = formed_within d (fair_drop moving k gone ways (subst (λ (w : List Way). fair moving w ≡ true) (sym e) refl))
+  drop_formed k gone (at_for a e) = formed_within d (fair_drop declaring k gone ways (rw e))
+  drop_formed k gone (at_export a e) = formed_within d (fair_drop moving k gone ways (rw e))
 
 -- a For may end with each stand-in of a Var
 for_end : (m : ℕ) → member m (stand_ins var_declaration) ≡ true → Stands for_ways m end
@@ -182,5 +144,5 @@ pub swap_var : (p : Place) (ways : List Way) (d : Chain) (m : ℕ) → member m 
     (p.parent ≡ for_statement → d ≡ end) → Bears p ways → Stands ways var_declaration d → Stands ways m d
 swap_var p ways d m stands x last (anywhere f) s = stands_fair giving_way ways var_declaration m d refl stands f s
 swap_var p ways d m stands x last (at_for a e) s =
-    subst (λ (w : List Way). Stands w m d) (sym e) (subst (λ (c : Chain). Stands for_ways m c) (sym (last a)) (for_end m stands))
+    let l = last a in rw (e, l) (for_end m stands)
 swap_var p ways d m stands x last (at_export a e) s = absurd (both_ways p.in_export x a)

@@ -58,7 +58,7 @@ read_zero (w ∷ words) = refl
 read_short : (words : List ℕ) → length words ≤ 1 → read_declared words ≡ []
 read_short [] l = refl
 read_short (w ∷ []) l = refl
-read_short (w ∷ x ∷ words) l = let z : ⊥ = omega arith in absurd z
+read_short (w ∷ x ∷ words) l = absurd (omega arith)
 
 read_zeros : (k : ℕ) (words : List ℕ) → length words ≤ 1 → read_declared (replicate k 0 ++ words) ≡ []
 read_zeros zero words l = read_short words l

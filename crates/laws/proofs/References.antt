@@ -9,10 +9,9 @@ use Rattle.std.proofs.lemmas.Bool.{both_ways}
 use Rattle.rules.specs.Tree.{Chain, Name}
 use Rattle.rules.specs.Grammar.{root}
 use Rattle.rules.specs.Held.{Formed}
-use Rattle.rules.specs.Counting.{Event, unheld, outermost, events_of}
-use Rattle.rules.specs.Tables.{Counts, look}
-use Rattle.rules.specs.Rings.{discount}
-use Rattle.rules.specs.Removal.{Config, at_root, unused, never_read, taken, gave}
+use Rattle.rules.specs.Counting.{Event, outermost, events_of}
+use Rattle.rules.specs.Tables.{Counts}
+use Rattle.rules.specs.Removal.{Config, at_root, taken, gave}
 use Rattle.rules.specs.Calls.{Pass, pass_by, final}
 use Rattle.rules.specs.Law.{In, begun_on, outcome_tree, Reference, InsideRing}
 use Rattle.laws.specs.Parts.{ReferencesLaw}
@@ -31,9 +30,9 @@ later_refers e (onward by c l) s x = treat_refers e by at_root root c s outermos
 
 -- a reference with holders of a closed ring stands inside the first
 ring_inside : (p : Pass) (left : Chain) (e : Event) → Reference e → In e (events_of left) → (hs : List Name) → e.holders ≡ hs → HeldInRing p.filled.counts e → InsideRing p left e
-ring_inside p left e r x [] q w = absurd (both_ways true (subst (λ (hs : List Name). unheld hs ≡ false) q w.held) refl)
+ring_inside p left e r x [] q w = absurd (both_ways true (rw q at w.held) refl)
 ring_inside p left e r x (m ∷ hs) q w =
-    let first : In m e.holders = subst (λ (l : List Name). In m l) (sym q) (inl refl) in
+    let first : In m e.holders = rw q (inl refl) in
     record { holder = m; inside = holder_inside e left r x m first; ring = w.ring; shares = w.shares m first }
 
 made_references : (k : Config) (p : Pass) (left : Chain) → Made k p left → (e : Event) → In e (events_of left) → Reference e
@@ -44,8 +43,8 @@ made_references k p left m e x r y =
     let es = events_of p.found in
     let z = refers_count e p.found outermost (later_refers e (onward by p.found m.later) m.formed (count_refers e r left outermost x)) in
     ring_inside p left e r x e.holders refl (subst (λ (c : Counts). HeldInRing c e) (sym m.full) (⊎_elim
-    (λ t. unused_within es e r z (subst (λ (c : Counts). unused (look e.name (discount c)) ≡ true) m.full (taken_unused by e.name p.found at_root t)))
-    (λ t. unread_within es e r z k t.1 (subst (λ (c : Counts). never_read k (look e.name (discount c)) ≡ true) m.full (gave_unread by e.name p.found at_root t.0))) y))
+    (λ t. unused_within es e r z (rw m.full at (taken_unused by e.name p.found at_root t)))
+    (λ t. unread_within es e r z k t.1 (rw m.full at (gave_unread by e.name p.found at_root t.0))) y))
 
 pub references_law : ReferencesLaw
 references_law k cs words p x =

@@ -5,16 +5,17 @@
 --   with_role                       the same surroundings with another role of a Name pattern
 --   refers_append, refers_swept, refers_after, refers_moved      what moves
 --   refers_joined                   the values of a Var's Declarators
-use Rattle.std.proofs.Common.{◌≡◌, true, false, ◌⊎◌, List, sym, refl, subst, inl, inr, ⊎_elim, arith}
-use Rattle.std.proofs.lemmas.Bool.{cond_both, both_ways, eqb-true}
+use Rattle.std.proofs.Common.{◌≡◌, true, false, ◌⊎◌, sym, refl, subst, inl, inr, ⊎_elim, arith}
+use Rattle.std.proofs.lemmas.Bool.{both_ways, eqb-true}
 use Rattle.rules.specs.Tree.{Head, Chain, ◌is◌, is_end, after, alone, append}
 use Rattle.rules.specs.Tree.Chain.{end, link}
-use Rattle.rules.specs.Kinds.{export_declaration, var_declaration, declarator, plain_expression, name_pattern, compound_pattern, default_pattern, expression, only}
+use Rattle.rules.specs.Kinds.{export_declaration, var_declaration, declarator, name_pattern, compound_pattern, default_pattern, expression, only}
 use Rattle.rules.specs.Held.{Formed}
 use Rattle.rules.specs.Counting.{Event, Role, Around, reading, own, inside}
 use Rattle.rules.specs.Counting.Role.{declared_here, written}
-use Rattle.rules.specs.Removal.{swept, become, values, joined}
+use Rattle.rules.specs.Removal.{swept, values, joined}
 use Rattle.rules.specs.Law.{In}
+use Rattle.laws.proofs.Basics.{swept_both, joined_both}
 use Rattle.laws.proofs.Formed.{first_kind, listed, declarator_value}
 use Rattle.laws.proofs.KeepsTable.{declarators}
 use Rattle.laws.proofs.RefersExported.{Exports, other_kind}
@@ -51,9 +52,10 @@ module _ (e : Event) where
 
   pub refers_swept : (a : Around) (c : Chain) → Refers a (swept c) e → Refers a c e
   refers_swept a end = λ x. x
-  refers_swept a (link h cs rest) = cond_both _ (swept rest) (link h cs (swept rest)) (λ (c : Chain). Refers a c e → Refers a (link h cs rest) e)
+  refers_swept a (link h cs rest) =
+      swept_both (λ (c : Chain). Refers a c e → Refers a (link h cs rest) e) h cs rest
       (λ _ x. inr (inr (refers_swept a rest x)))
-      (λ _ x. ⊎_elim (λ y. inl y) (λ z. inr (⊎_elim (λ y. inl y) (λ y. inr (refers_swept a rest y)) z)) x)
+      (λ x. ⊎_elim (λ y. inl y) (λ z. inr (⊎_elim (λ y. inl y) (λ y. inr (refers_swept a rest y)) z)) x)
 
   pub refers_after : (a : Around) (c : Chain) → Refers a (after c) e → Refers a c e
   refers_after a end x = x
@@ -66,8 +68,8 @@ module _ (e : Event) where
       let k : expression h.kind ≡ true = ⊎_elim (λ z. absurd (both_ways false refl z)) (λ z. z) x in
       ⊎_elim
       (λ z. inl (⊎_elim (λ w. absurd (both_ways (h is export_declaration) (other_kind h.kind export_declaration k refl) w.0))
-      (λ w. inr (subst (λ (es : List Event). In e es) (own_expression a h r s k) w)) z))
-      (λ z. inr (⊎_elim (λ w. inl (subst (λ (o : Around). Refers o cs e) (inside_expression a h r s k) w)) (λ w. absurd w) z)) y
+      (λ w. inr (rw (own_expression a h r s k) at w)) z))
+      (λ z. inr (⊎_elim (λ w. inl (rw (inside_expression a h r s k) at w)) (λ w. absurd w) z)) y
 
   refers_values : (a : Around) (c : Chain) → Formed declarators c → Refers (with_role a written) (values c) e → Refers (with_role a written) c e
   refers_values a end s x = x
@@ -84,7 +86,6 @@ module _ (e : Event) where
   refers_joined a end s = λ x. x
   refers_joined a (link d parts rest) s =
       let c = link d parts rest in
-      let all = values c in
-      cond_both (is_end (after all)) all (link (become plain_expression d) all end) (λ (l : Chain). Refers (with_role a written) l e → Refers (with_role a written) c e)
+      joined_both (λ (l : Chain). Refers (with_role a written) l e → Refers (with_role a written) c e) d parts rest
       (λ _ x. refers_values a c s x)
-      (λ _ x. ⊎_elim (λ y. absurd (⊎_elim (λ z. both_ways false refl z.0) (λ z. z) y)) (λ y. ⊎_elim (λ z. refers_values a c s z) (λ z. absurd z) y) x)
+      (λ x. ⊎_elim (λ y. absurd (⊎_elim (λ z. both_ways false refl z.0) (λ z. z) y)) (λ y. ⊎_elim (λ z. refers_values a c s z) (λ z. absurd z) y) x)

@@ -2,13 +2,12 @@
 --
 --   count_refers, refers_count      an event of the count is a reference of the tree, and back
 use Rattle.std.specs.Prelude.{if◌then◌else◌}
-use Rattle.std.proofs.Common.{◌≡◌, ℕ, Bool, true, false, ◌&&◌, List, [], ◌∷◌, ◌++◌, sym, refl, ap, ◌∙◌, subst, inl, inr, ⊎_elim, arith}
-use Rattle.std.proofs.lemmas.Bool.{both_ways}
+use Rattle.std.proofs.Common.{◌≡◌, ℕ, Bool, List, [], ◌∷◌, ◌++◌, sym, refl, subst, inl, inr, ⊎_elim, arith}
 use Rattle.rules.specs.Tree.{Head, Chain, Name, ◌is◌}
 use Rattle.rules.specs.Tree.Chain.{end, link}
-use Rattle.rules.specs.Kinds.{export_declaration, function}
-use Rattle.rules.specs.Names.{names_of, distinct, bound, declared_below, exported}
-use Rattle.rules.specs.Counting.{Event, unheld, Found, nothing, Around, reading, readings, marks, own, opens, leave, inside, count}
+use Rattle.rules.specs.Kinds.{export_declaration}
+use Rattle.rules.specs.Names.{exported}
+use Rattle.rules.specs.Counting.{Event, Found, nothing, Around, reading, readings, marks, own, opens, leave, inside, count}
 use Rattle.rules.specs.Law.{In, Reference}
 use Rattle.laws.proofs.Basics.{in_append, in_left, in_right, only_if}
 use Rattle.laws.proofs.RefersExported.{in_exported, exported_in}
@@ -24,9 +23,8 @@ in_readings e a (h ∷ hs) x = ⊎_elim (λ y. (h, inl refl, y)) (λ y. let r = 
 
 readings_in : (e : Event) (a : Around) (g : Head) (hs : List Head) → In g hs → In e (reading a g).events → In e (readings a hs).events
 readings_in e a g [] x y = absurd x
-readings_in e a g (h ∷ hs) x y = ⊎_elim
-    (λ z. in_left e (reading a h).events (readings a hs).events (subst (λ (f : Head). In e (reading a f).events) z y))
-    (λ z. in_right e (reading a h).events (readings a hs).events (readings_in e a g hs z y)) x
+readings_in e a g (h ∷ hs) x y =
+    grind (arith, in_left e (reading a h).events (readings a hs).events, in_right e (reading a h).events (readings a hs).events, readings_in e a g hs)
 
 -- what is found below a record, its scope left
 abbrev left_of : Head → Chain → Found → Found
@@ -35,21 +33,10 @@ left_of h cs f = if opens h then leave h cs f else f
 module _ (e : Event) (r : Reference e) where
   no_mark : (at : ℕ) (ns : List Name) → In e (marks at ns) → ⊥
   no_mark at [] x = x
-  no_mark at (n ∷ ns) x = ⊎_elim (λ y. both_ways false refl (ap (λ (v : Event). v.entry) (sym y) ∙ r ∙ ap (λ (v : Event). unheld v.holders) y)) (no_mark at ns) x
-
-  no_marks : (b : Bool) (at : ℕ) (ns : List Name) → In e (if b then marks at ns else []) → ⊥
-  no_marks true at ns x = no_mark at ns x
-  no_marks false at ns x = x
+  no_mark at (n ∷ ns) x = grind (arith, no_mark at ns)
 
   left_in : (b : Bool) (h : Head) (cs : Chain) (f : Found) → In e (if b then leave h cs f else f).events → In e f.events
-  left_in true h cs f x =
-      let by_eval = if f.found_direct_eval then marks h.number (distinct [] (names_of (declared_below h cs))) else [] in
-      let by_arguments = if f.found_arguments && h is function then marks h.number (names_of (bound cs)) else [] in
-      ⊎_elim
-      (λ y. ⊎_elim (λ z. z) (λ z. absurd (no_marks f.found_direct_eval h.number _ z)) (in_append e f.events by_eval y))
-      (λ y. absurd (no_marks (f.found_arguments && h is function) h.number _ y))
-      (in_append e (f.events ++ by_eval) by_arguments x)
-  left_in false h cs f x = x
+  left_in b h cs f x = grind (arith, in_append e, no_mark h.number)
 
   pub count_refers : (c : Chain) (a : Around) → In e (count a c).events → Refers a c e
   count_refers end a x = x
@@ -64,15 +51,11 @@ module _ (e : Event) (r : Reference e) where
       let z = only_if (λ (f : Found). In e f.events) (h is export_declaration) (readings a (exported cs)) nothing (λ z. z) y in
       let g = in_readings e a (exported cs) z.1 in
       inl (inl (z.0, (g.0, in_exported g.0 cs g.1, g.2))))
-      (λ y. ⊎_elim (λ z. inr (inl (count_refers cs (inside a h) (left_in (opens h) h cs inner z))))
-      (λ z. ⊎_elim (λ w. inl (inr (subst (λ (es : List Event). In e es) (own_events a h cs) w))) (λ w. inr (inr (count_refers rest a w)))
-      (in_append e mine onward z))
-      (in_append e under (mine ++ onward) y))
+      (λ y. grind (arith, in_append e under (mine ++ onward) y, in_append e mine onward, left_in (opens h) h cs inner, count_refers cs (inside a h), count_refers rest a, own_events a h cs))
       (in_append e before (under ++ (mine ++ onward)) x)
 
 in_left_of : (e : Event) (b : Bool) (h : Head) (cs : Chain) (f : Found) → In e f.events → In e (if b then leave h cs f else f).events
-in_left_of e true h cs f x = in_left e (f.events ++ _) _ (in_left e f.events _ x)
-in_left_of e false h cs f x = x
+in_left_of e b h cs f x = grind (arith, in_left e)
 
 pub refers_count : (e : Event) (c : Chain) (a : Around) → Refers a c e → In e (count a c).events
 refers_count e end a x = x

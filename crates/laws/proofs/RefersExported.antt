@@ -4,19 +4,18 @@
 --   Exports, in_exported, exported_in      the records that an Export declaration exports, place by place
 --   treat_exports                          none comes by a removal
 use Rattle.std.specs.Prelude.{if◌then◌else◌}
-use Rattle.std.proofs.Common.{◌≡◌, ℕ, Bool, true, false, ◌||◌, eqb, ◌⊎◌, List, [], ◌++◌, sym, refl, subst, inl, inr, ⊎_elim, arith}
-use Rattle.std.proofs.lemmas.Bool.{both_ways}
+use Rattle.std.proofs.Common.{◌≡◌, ℕ, Bool, true, false, ◌||◌, eqb, ◌⊎◌, List, [], inr, arith}
 use Rattle.std.proofs.lemmas.Bool.Decides.{nat_tests}
 use Rattle.rules.specs.Tree.{Head, Chain, ◌is◌, is_end, after, alone, append}
 use Rattle.rules.specs.Tree.Chain.{end, link}
 use Rattle.rules.specs.Kinds.{fn_declaration, class_declaration, var_declaration, declarator, expression}
 use Rattle.rules.specs.Grammar.{Way, assigned, children_of, step}
 use Rattle.rules.specs.Held.{Formed}
-use Rattle.rules.specs.Names.{binds, nests, keep, exported}
+use Rattle.rules.specs.Names.{binds, nests, exported}
 use Rattle.rules.specs.Removal.{By, Place, place_inside, entered, swept, wrapped_object, Verdict, verdict, Left, done, treated, treat}
 use Rattle.rules.specs.Removal.Verdict.{stays, sweeps, empties, unlinks, restates, yields, unwraps}
 use Rattle.rules.specs.Law.{In}
-use Rattle.laws.proofs.Basics.{in_append, in_left, in_right, only_if}
+use Rattle.laws.proofs.Basics.{in_append, in_left, in_right}
 use Rattle.laws.proofs.Formed.{first_kind, assigned_value}
 use Rattle.laws.proofs.Verdicts.{wraps, Means, means, treated_both}
 use Rattle.laws.proofs.KeepsTable.{inner_ways}
@@ -35,29 +34,16 @@ abbrev pub Exports : Head → Chain → Type 0
 Exports g end = ⊥
 Exports g (link h cs rest) = ((bears h ≡ true) × (g ≡ h)) ⊎ (((carries h ≡ true) × Exports g cs) ⊎ Exports g rest)
 
--- by a test that adds something
-in_keep : (g h : Head) (b : Bool) (hs : List Head) → In g (keep b h hs) → ((b ≡ true) × (g ≡ h)) ⊎ In g hs
-in_keep g h true hs x = ⊎_elim (λ e. inl (refl, e)) (λ y. inr y) x
-in_keep g h false hs x = inr x
-
-keep_in : (g h : Head) (b : Bool) (hs : List Head) → ((b ≡ true) × (g ≡ h)) ⊎ In g hs → In g (keep b h hs)
-keep_in g h true hs x = ⊎_elim (λ y. inl y.1) (λ y. inr y) x
-keep_in g h false hs x = ⊎_elim (λ y. absurd (both_ways false refl y.0)) (λ y. y) x
-
 pub in_exported : (g : Head) (c : Chain) → In g (exported c) → Exports g c
 in_exported g end x = x
 in_exported g (link h cs rest) x =
-    let under = if carries h then exported cs else [] in
-    ⊎_elim (λ y. inl y)
-    (λ y. inr (⊎_elim (λ z. let w = only_if (In g) (carries h) (exported cs) [] (λ w. w) z in inl (w.0, in_exported g cs w.1)) (λ z. inr (in_exported g rest z)) (in_append g under (exported rest) y)))
-    (in_keep g h (bears h) (under ++ exported rest) x)
+    grind (arith, in_append g (if carries h then exported cs else []) (exported rest), in_exported g cs, in_exported g rest)
 
 pub exported_in : (g : Head) (c : Chain) → Exports g c → In g (exported c)
 exported_in g end x = x
 exported_in g (link h cs rest) x =
     let under = if carries h then exported cs else [] in
-    keep_in g h (bears h) (under ++ exported rest) (⊎_elim (λ y. inl y)
-    (λ y. inr (⊎_elim (λ z. in_left g under (exported rest) (rw z.0 (exported_in g cs z.1))) (λ z. in_right g under (exported rest) (exported_in g rest z)) y)) x)
+    grind (arith, in_left g under (exported rest), in_right g under (exported rest), exported_in g cs, exported_in g rest)
 
 -- an expression is of no other kind
 pub other_kind : (k m : ℕ) → expression k ≡ true → expression m ≡ false → eqb k m ≡ false
@@ -92,7 +78,7 @@ module _ (g : Head) where
   done_exports by p h found inner k t restates m x = grind arith
   done_exports by p h found inner k t (yields n) m x = absurd (expression_exports (after inner.chain) (assigned_value (assigned h) inner.chain (rw m.kind at k)) x)
   done_exports by p h found inner k t unwraps m x =
-      absurd (expression_exports (wrapped_object inner.chain) (subst (λ (j : ℕ). expression j ≡ true) (sym (wraps inner.chain m.wraps).object) refl) x)
+      absurd (expression_exports (wrapped_object inner.chain) (rw (wraps inner.chain m.wraps).object) x)
 
   pub treat_exports : (by : By) (p : Place) (ways : List Way) (c : Chain) → Formed ways c → Exports g (treat by p c).chain → Exports g c
   treat_exports by p ways end s x = x
@@ -104,7 +90,4 @@ module _ (g : Head) where
       (λ _. done_exports by p h cs inner (inner_kept by p h cs s.2) (treat_exports by (place_inside p h) (children_of h) cs s.2)
       (verdict by p h cs inner.chain) (means by p h cs inner.chain))
       (λ _ y. y) in
-      ⊎_elim
-      (λ y. ⊎_elim (λ z. inl z) (λ z. inr (⊎_elim (λ w. inl w) (λ w. absurd w) z)) (first y))
-      (λ y. inr (inr (treat_exports by p (step h.kind ways) rest s.3 y)))
-      (exports_append here.chain (treat by p rest).chain x)
+      grind (arith, first, exports_append here.chain (treat by p rest).chain, treat_exports by p (step h.kind ways) rest s.3)

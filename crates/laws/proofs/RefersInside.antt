@@ -2,7 +2,7 @@
 --
 --   OnPaths, inside_on      a name on one of the paths; below a record
 --   holder_inside           the theorem
-use Rattle.std.proofs.Common.{◌≡◌, ℕ, Bool, true, false, ◌||◌, ◌⊎◌, List, [], ◌∷◌, sym, ap, subst, inl, inr, ⊎_elim, arith}
+use Rattle.std.proofs.Common.{◌≡◌, Bool, true, false, ◌||◌, ◌⊎◌, List, [], ◌∷◌, ap, inl, inr, ⊎_elim, arith}
 use Rattle.std.proofs.lemmas.Bool.{cond_both}
 use Rattle.rules.specs.Tree.{Head, Chain, Name, ◌is◌, name_of}
 use Rattle.rules.specs.Tree.Chain.{end, link}
@@ -60,16 +60,15 @@ module _ (e : Event) where
 
   exports_number : (g : Head) (c : Chain) → Exports g c → Numbers g.number c
   exports_number g end x = x
-  exports_number g (link h cs rest) x = ⊎_elim (λ y. inl (ap (λ (f : Head). f.number) y.1)) (λ y. inr (⊎_elim (λ z. inl (exports_number g cs z.1)) (λ z. inr (exports_number g rest z)) y)) x
+  exports_number g (link h cs rest) x = grind (arith, exports_number g cs, exports_number g rest)
 
   -- the reference stands in the record's chain, and its holders are the innermost path's
   here_of : (a : Around) (h : Head) (cs : Chain) → Here a h cs e → ((e.at ≡ h.number) ⊎ Numbers e.at cs) × (e.holders ≡ holders a.ast_paths)
-  here_of a h cs x = ⊎_elim
-      (λ y.
+  here_of a h cs (inl y) =
       let g = y.1.0 in
       let o = reference_of a false g y.1.2 in
-      (inr (subst (λ (n : ℕ). Numbers n cs) (sym o.0) (exports_number g cs y.1.1)), o.1))
-      (λ y. let o = own_of a h y in (inl o.0, o.1)) x
+      (inr (rw o.0 (exports_number g cs y.1.1)), o.1)
+  here_of a h cs (inr y) = let o = own_of a h y in (inl o.0, o.1)
 
   refers_stands : (c : Chain) (a : Around) → Refers a c e → Numbers e.at c
   refers_stands end a x = x
@@ -77,11 +76,8 @@ module _ (e : Event) where
 
   refers_inside : (m : Name) → In m e.holders → (c : Chain) (a : Around) → Refers a c e → OnPaths m a.ast_paths ⊎ Inside m e.at c
   refers_inside m g end a x = absurd x
-  refers_inside m g (link h cs rest) a x = ⊎_elim
-      (λ y. inl (held_on m a.ast_paths (subst (λ (l : List Name). In m l) (here_of a h cs y).1 g)))
-      (λ y. ⊎_elim
-      (λ z. ⊎_elim (λ w. ⊎_elim (λ u. inl u) (λ u. inr (inl (u.0, u.1, refers_stands cs (inside a h) z))) (inside_on m a h w)) (λ w. inr (inr (inl w))) (refers_inside m g cs (inside a h) z))
-      (λ z. ⊎_elim (λ w. inl w) (λ w. inr (inr (inr w))) (refers_inside m g rest a z)) y) x
+  refers_inside m g (link h cs rest) a x =
+      grind (arith, held_on m a.ast_paths, here_of a h cs, refers_inside m g cs (inside a h), refers_inside m g rest a, inside_on m a h, refers_stands cs (inside a h))
 
   pub holder_inside : (c : Chain) → Reference e → In e (events_of c) → (m : Name) → In m e.holders → Inside m e.at c
   holder_inside c r x m g = ⊎_elim (λ y. absurd (⊎_elim (λ z. z) (λ z. z) y)) (λ y. y) (refers_inside m g c outermost (count_refers e r c outermost x))

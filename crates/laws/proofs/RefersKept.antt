@@ -27,10 +27,9 @@ module _ (e : Event) where
   done_refers : (by : By) (p : Place) (a : Around) (h : Head) (found : Chain) (inner : Left) → Formed (inner_ways h) inner.chain
       → ((g : Head) → Exports g inner.chain → Exports g found) → (Refers (inside a h) inner.chain e → Refers (inside a h) found e)
       → (v : Verdict) → Means by p h found inner.chain v → Refers a (done v h inner).chain e → Refers a (link h found end) e
-  done_refers by p a h found inner k xs t stays m x = ⊎_elim (λ y. inl (here_kept a h found inner.chain xs y)) (λ y. inr (⊎_elim (λ z. inl (t z)) (λ z. absurd z) y)) x
-  done_refers by p a h found inner k xs t sweeps m x = ⊎_elim
-      (λ y. inl (here_kept a h found (swept inner.chain) (λ g z. xs g (exports_swept g inner.chain z)) y))
-      (λ y. inr (⊎_elim (λ z. inl (t (refers_swept e (inside a h) inner.chain z))) (λ z. absurd z) y)) x
+  done_refers by p a h found inner k xs t stays m x = grind (arith, here_kept a h found inner.chain xs, t)
+  done_refers by p a h found inner k xs t sweeps m x =
+      grind (arith, here_kept a h found (swept inner.chain) (λ g z. xs g (exports_swept g inner.chain z)), t, refers_swept e (inside a h) inner.chain)
   done_refers by p a h found inner k xs t (empties ns) m x = grind arith
   done_refers by p a h found inner k xs t (unlinks n) m x = absurd x
   done_refers by p a h found inner k xs t restates m x = ⊎_elim
@@ -57,7 +56,4 @@ module _ (e : Event) where
       (λ _. done_refers by p a h cs inner (inner_kept by p h cs s.2) (λ g. treat_exports g by (place_inside p h) (children_of h) cs s.2)
       (treat_refers by (place_inside p h) (children_of h) cs s.2 (inside a h)) (verdict by p h cs inner.chain) (means by p h cs inner.chain))
       (λ _ y. y) in
-      ⊎_elim
-      (λ y. ⊎_elim (λ z. inl z) (λ z. inr (⊎_elim (λ w. inl w) (λ w. absurd w) z)) (first y))
-      (λ y. inr (inr (treat_refers by p (step h.kind ways) rest s.3 a y)))
-      (refers_append e a here.chain (treat by p rest).chain x)
+      grind (arith, first, refers_append e a here.chain (treat by p rest).chain, treat_refers by p (step h.kind ways) rest s.3 a)

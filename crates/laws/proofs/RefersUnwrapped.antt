@@ -4,8 +4,9 @@
 --   AroundAlike, alike_inside      surroundings in which a reference is counted alike
 --   refers_unwrapped               the theorem
 use Rattle.std.specs.Prelude.{if◌then◌else◌}
-use Rattle.std.proofs.Common.{◌≡◌, ℕ, Bool, true, false, eqb, List, [], ◌∷◌, sym, refl, ◌∙◌, subst, inl, inr, ⊎_elim}
-use Rattle.std.proofs.lemmas.Bool.{and_parts, both_ways, eqb-true}
+use Rattle.std.proofs.Common.{◌≡◌, ℕ, Bool, true, false, eqb, List, [], ◌∷◌, sym, refl, ◌∙◌, inl, inr, ⊎_elim, arith}
+use Rattle.std.proofs.lemmas.Bool.{both_ways}
+use Rattle.std.proofs.lemmas.Bool.Decides.{nat_tests}
 use Rattle.rules.specs.Tree.{Head, Chain, Name, ◌is◌, is_end, below, alone}
 use Rattle.rules.specs.Tree.Chain.{end, link}
 use Rattle.rules.specs.Kinds.{export_declaration, block, plain_statement, fn_declaration, class_declaration, function, identifier, function_expression, object, call_expression}
@@ -13,7 +14,6 @@ use Rattle.rules.specs.Grammar.{Way, children_of, step}
 use Rattle.rules.specs.Held.{Formed}
 use Rattle.rules.specs.Counting.{Event, holders, Around, own, inside}
 use Rattle.rules.specs.Removal.{only_identifiers, wrapped_object}
-use Rattle.rules.specs.Law.{In}
 use Rattle.laws.proofs.Formed.{first_kind, formed_none, FirstFormed, below_formed, callee_function}
 use Rattle.laws.proofs.Verdicts.{Unwrapped, wraps}
 use Rattle.laws.proofs.Refers.{Refers}
@@ -67,11 +67,11 @@ module _ (e : Event) where
   refers_identifiers : (a o : Around) (ways : List Way) (c : Chain) → AroundAlike a o → Formed ways c → only_identifiers c ≡ true → Refers a c e → Refers o c e
   refers_identifiers a o ways end s t g x = x
   refers_identifiers a o ways (link h cs rest) s t g x =
-      let p = and_parts (h is identifier) (only_identifiers rest) g in
-      let k = eqb-true h.kind identifier p.0 in
+      let k : h.kind ≡ identifier = grind (arith, nat_tests) in
+      let others : only_identifiers rest ≡ true = grind arith in
       ⊎_elim
-      (λ y. inl (⊎_elim (λ z. absurd (not_kind identifier export_declaration h k refl z.0)) (λ z. inr (subst (λ (es : List Event). In e es) (own_identifier a o h k s) z)) y))
-      (λ y. inr (⊎_elim (λ z. absurd (no_children (inside a h) cs (formed_none cs (rw k at t.2)) z)) (λ z. inr (refers_identifiers a o (step h.kind ways) rest s t.3 p.1 z)) y)) x
+      (λ y. inl (⊎_elim (λ z. absurd (not_kind identifier export_declaration h k refl z.0)) (λ z. inr (rw (own_identifier a o h k s) at z)) y))
+      (λ y. inr (⊎_elim (λ z. absurd (no_children (inside a h) cs (formed_none cs (rw k at t.2)) z)) (λ z. inr (refers_identifiers a o (step h.kind ways) rest s t.3 others z)) y)) x
 
   refers_object : (a o : Around) (c : Chain) → AroundAlike a o → FirstFormed c → first_kind c ≡ object → only_identifiers (below c) ≡ true → Refers a (alone c) e → Refers o c e
   refers_object a o end s t k g x = x
@@ -79,7 +79,7 @@ module _ (e : Event) where
       let i = alike_then (inside a h) a (inside o h) (alike_back a (inside a h) (alike_inside a h object k refl refl))
       (alike_then a o (inside o h) s (alike_inside o h object k refl refl)) in
       ⊎_elim
-      (λ y. absurd (⊎_elim (λ z. not_kind object export_declaration h k refl z.0) (λ z. subst (λ (es : List Event). In e es) (own_object a h k) z) y))
+      (λ y. absurd (⊎_elim (λ z. not_kind object export_declaration h k refl z.0) (λ z. rw (own_object a h k) at z) y))
       (λ y. ⊎_elim (λ z. inr (inl (refers_identifiers (inside a h) (inside o h) (children_of h) cs i t.formed g z))) (λ z. absurd z) y) x
 
   pub refers_unwrapped : (a : Around) (h : Head) (bs : Chain) → FirstFormed bs → Unwrapped h bs → Refers a (alone (wrapped_object bs)) e → Refers (inside a h) bs e

@@ -3,8 +3,8 @@
 --
 --   Run, from_run                        the passes of a repeat
 --   repeats_law, bound_never_ends        the theorems
-use Rattle.std.proofs.Common.{◌≡◌, ℕ, zero, suc, ◌<◌, ◌≤◌, Bool, true, false, [], ◌∷◌, length, sym, refl, ap, subst, ⊎_elim, arith}
-use Rattle.std.proofs.lemmas.Bool.{both_ways, or_cases, or_parts}
+use Rattle.std.proofs.Common.{◌≡◌, ℕ, zero, suc, ◌<◌, ◌≤◌, Bool, true, false, [], ◌∷◌, length, sym, refl, ap, subst, arith}
+use Rattle.std.proofs.lemmas.Bool.{both_ways, or_parts}
 use Rattle.rules.specs.Tree.{Chain, Name, reached}
 use Rattle.rules.specs.Tree.Chain.{end, link}
 use Rattle.rules.specs.Grammar.{root}
@@ -51,7 +51,7 @@ module _ (k : Config) (s : State) (fresh : s.changed ≡ false) (r : Ready s.tre
   -- a pass that changed something has lost a record
   changed_lost : (passed k s p).changed ≡ true → reached (remove k p).chain < reached p.found
   changed_lost c = lost_reached (pass_by k p.filled) at_root root p.found ready_found
-      (⊎_elim (λ x. absurd (both_ways s.changed fresh x)) (λ x. x) (or_cases s.changed (remove k p).changed c))
+      (grind (arith, fresh, c))
 
   turns_on : (turns : ℕ) → (passed k s p).changed ≡ true
       → let next = passes_from k turns (cleared (passed k s p)) in Run k (cleared (passed k s p)) turns next

@@ -4,8 +4,8 @@
 --   ReadsSame, reads_link, reads_swept      the tree left gives the same counts, declared names, bound names and exported names
 --   treat_same                              a removal that changes nothing leaves such a tree
 use Rattle.std.specs.Prelude.{if◌then◌else◌}
-use Rattle.std.proofs.Common.{◌≡◌, ℕ, Bool, true, false, ◌&&◌, ◌||◌, List, [], ◌∷◌, ◌++◌, sym, refl, ap, ◌∙◌, subst, ⊎_elim, arith}
-use Rattle.std.proofs.lemmas.Bool.{cond_both, and_parts, both_ways, or_cases, or_parts, eqb-true}
+use Rattle.std.proofs.Common.{◌≡◌, ℕ, Bool, true, false, ◌&&◌, ◌||◌, List, [], ◌∷◌, ◌++◌, sym, refl, ap, ◌∙◌, ⊎_elim, arith}
+use Rattle.std.proofs.lemmas.Bool.{and_parts, both_ways, or_cases, or_parts, eqb-true}
 use Rattle.rules.specs.Tree.{Head, Chain, ◌is◌, is_end, append}
 use Rattle.rules.specs.Tree.Chain.{end, link}
 use Rattle.rules.specs.Kinds.{export_declaration, export_name, empty_statement, block, fn_declaration, class_declaration, var_declaration, declarator, function, identifier, arrow, call_expression, name_pattern, property_name}
@@ -13,11 +13,10 @@ use Rattle.rules.specs.Grammar.{Way, children_of, step}
 use Rattle.rules.specs.Held.{Formed}
 use Rattle.rules.specs.Names.{names_of, distinct, binds, nests, keep, bound, Under, under_nothing, under, declares, declaring, declared_below, exported}
 use Rattle.rules.specs.Counting.{Found, nothing, ◌followed_by◌, Around, reading, writing, readings, marks, named_here, calls_eval, opens, inside, count}
-use Rattle.rules.specs.Removal.{By, Place, place_inside, has_list, entered, swept, Verdict, verdict, Left, done, treated, treat}
-use Rattle.rules.specs.Removal.Verdict.{stays, sweeps, empties, unlinks, restates, yields, unwraps}
-use Rattle.laws.proofs.Basics.{each_member}
+use Rattle.rules.specs.Removal.{By, Place, place_inside, has_list, entered, swept, Left, treated, treat}
+use Rattle.laws.proofs.Basics.{swept_both, each_member}
 use Rattle.laws.proofs.Formed.{formed_none}
-use Rattle.laws.proofs.Verdicts.{Means, means, treated_both, with_kind, by_list}
+use Rattle.laws.proofs.Verdicts.{Kept, treated_kept, with_kind, by_list}
 use Rattle.laws.proofs.KeepsTable.{inner_ways}
 use Rattle.laws.proofs.KeepsFormed.{inner_kept}
 
@@ -59,9 +58,9 @@ by_swept P h (link i ds rest) k g x y = absurd (⊎_elim
 count_swept : (a : Around) (ways : List Way) (c : Chain) → Formed ways c → count a (swept c) ≡ count a c
 count_swept a ways end s = refl
 count_swept a ways (link h cs rest) s =
-    cond_both (h is empty_statement || (h is block && is_end cs)) (swept rest) (link h cs (swept rest)) (λ (d : Chain). count a d ≡ count a (link h cs rest))
+    swept_both (λ (d : Chain). count a d ≡ count a (link h cs rest)) h cs rest
     (λ g. count_swept a (step h.kind ways) rest s.3 ∙ by_swept (λ (h : Head) (cs : Chain). count a rest ≡ count a (link h cs rest)) h cs s.2 g refl refl)
-    (λ _. ap (λ (f : Found). found_at a h (exported cs) (count (inside a h) cs) (declared_below h cs) (bound cs) (calls_eval cs) f) (count_swept a (step h.kind ways) rest s.3))
+    (ap (λ (f : Found). found_at a h (exported cs) (count (inside a h) cs) (declared_below h cs) (bound cs) (calls_eval cs) f) (count_swept a (step h.kind ways) rest s.3))
 
 declares_none : (b d : Bool) (h : Head) → let u : Under = record { binding = b; default = d } in
     (declares u (with_kind h empty_statement) ≡ false) × (declares u (with_kind h block) ≡ false)
@@ -74,10 +73,10 @@ declaring_swept : (u : Under) (ways : List Way) (c : Chain) → Formed ways c �
 declaring_swept u ways end s = refl
 declaring_swept u ways (link h cs rest) s =
     let none = declares_none u.binding u.default h in
-    cond_both (h is empty_statement || (h is block && is_end cs)) (swept rest) (link h cs (swept rest)) (λ (d : Chain). declaring u d ≡ declaring u (link h cs rest))
+    swept_both (λ (d : Chain). declaring u d ≡ declaring u (link h cs rest)) h cs rest
     (λ g. declaring_swept u (step h.kind ways) rest s.3 ∙ by_swept (λ (h : Head) (cs : Chain). declaring u rest ≡ declaring u (link h cs rest)) h cs s.2 g
     (declaring_none u (with_kind h empty_statement) rest none.0) (declaring_none u (with_kind h block) rest none.1))
-    (λ _. ap (λ (hs : List Head). keep (declares u h) h (declaring (under u h) cs ++ hs)) (declaring_swept u (step h.kind ways) rest s.3))
+    (ap (λ (hs : List Head). keep (declares u h) h (declaring (under u h) cs ++ hs)) (declaring_swept u (step h.kind ways) rest s.3))
 
 -- THE SAME TREE
 
@@ -136,43 +135,28 @@ reads_swept h cs rest g s = record {
 
 -- REMOVALS
 
--- what is left of one record is that record, with children that give the same
-pub record Stays (h : Head) (cs : Chain) (l : Left) : Type 0 where
-  pub children : Chain
-  pub stays_link : l.chain ≡ link h children end
-  pub gives : (rest : Chain) → ReadsSame (link h cs rest) (link h children rest)
+-- a record with children that give the same
+abbrev Gives : Head → (found left : Chain) → Type 0
+Gives h cs bs = (rest : Chain) → ReadsSame (link h cs rest) (link h bs rest)
 
-done_same : (by : By) (p : Place) (h : Head) (cs : Chain) (inner : Left) → Formed (inner_ways h) inner.chain → (inner.changed ≡ false → ReadsSame cs inner.chain)
-    → (v : Verdict) → Means by p h cs inner.chain v → (done v h inner).changed ≡ false → Stays h cs (done v h inner)
-done_same by p h cs inner t s stays m g = record { children = inner.chain; stays_link = refl; gives = λ rest. reads_link h cs inner.chain rest rest (s g) (reads_refl rest) }
-done_same by p h cs inner t s sweeps m g = record {
-  children = swept inner.chain;
-  stays_link = refl;
-  gives = λ rest. reads_then (link h cs rest) (link h inner.chain rest) (link h (swept inner.chain) rest)
-      (reads_link h cs inner.chain rest rest (s g) (reads_refl rest)) (reads_swept h inner.chain rest m t);
-}
-done_same by p h cs inner t s (empties ns) m g = absurd (both_ways true g refl)
-done_same by p h cs inner t s (unlinks n) m g = absurd (both_ways true g refl)
-done_same by p h cs inner t s restates m g = absurd (both_ways true g refl)
-done_same by p h cs inner t s (yields n) m g = absurd (both_ways true g refl)
-done_same by p h cs inner t s unwraps m g = absurd (both_ways true g refl)
-
-both_same : (h : Head) (cs rest : Chain) (a b : Left) → Stays h cs a → ReadsSame rest b.chain → ReadsSame (link h cs rest) (append a.chain b.chain)
+both_same : (h : Head) (cs rest : Chain) (a b : Left) → Kept h (Gives h cs) a → ReadsSame rest b.chain → ReadsSame (link h cs rest) (append a.chain b.chain)
 both_same h cs rest a b x s =
-    subst (λ (c : Chain). ReadsSame (link h cs rest) (append c b.chain)) (sym x.stays_link)
-    (reads_then (link h cs rest) (link h x.children rest) (link h x.children b.chain) (x.gives rest)
+    rw x.is_link
+    (reads_then (link h cs rest) (link h x.children rest) (link h x.children b.chain) (x.said rest)
     (reads_link h x.children x.children rest b.chain (reads_refl x.children) s))
 
 pub treat_same : (by : By) (p : Place) (ways : List Way) (c : Chain) → Formed ways c → (treat by p c).changed ≡ false → ReadsSame c (treat by p c).chain
 treat_same by p ways end s g = reads_refl end
 treat_same by p ways (link h cs rest) s g =
     let inner = treat by (place_inside p h) cs in
-    let one = treated (entered p h cs (is_end rest)) by p h cs inner in
+    let b = entered p h cs (is_end rest) in
+    let one = treated b by p h cs inner in
     let q = or_parts one.changed (treat by p rest).changed g in
+    let below : inner.changed ≡ false → ReadsSame cs inner.chain = treat_same by (place_inside p h) (children_of h) cs s.2 in
     both_same h cs rest one (treat by p rest)
-    (treated_both (entered p h cs (is_end rest)) by p h cs inner (λ (l : Left). l.changed ≡ false → Stays h cs l)
-    (λ _. done_same by p h cs inner (inner_kept by p h cs s.2) (treat_same by (place_inside p h) (children_of h) cs s.2)
-    (verdict by p h cs inner.chain) (means by p h cs inner.chain))
-    (λ _ _. record { children = cs; stays_link = refl; gives = λ r. reads_refl (link h cs r) })
-    q.0)
+    (treated_kept by p h cs inner (Gives h cs)
+    (λ _ f r. reads_link h cs inner.chain r r (below f) (reads_refl r))
+    (λ has f r. reads_then (link h cs r) (link h inner.chain r) (link h (swept inner.chain) r)
+    (reads_link h cs inner.chain r r (below f) (reads_refl r)) (reads_swept h inner.chain r has (inner_kept by p h cs s.2)))
+    b (λ _ r. reads_refl (link h cs r)) q.0)
     (treat_same by p (step h.kind ways) rest s.3 q.1)

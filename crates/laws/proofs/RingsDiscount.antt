@@ -4,8 +4,7 @@
 --   look_discount               a name's row after the rings are discounted
 --   open_row, counted_row       outside closed rings it is as counted; it is counted where it was
 use Rattle.std.specs.Prelude.{if◌then◌else◌}
-use Rattle.std.proofs.Common.{◌≡◌, true, false, List, [], ◌∷◌, sym, refl, subst, arith}
-use Rattle.std.proofs.lemmas.Bool.{cond_both, both_ways}
+use Rattle.std.proofs.Common.{◌≡◌, false, List, [], ◌∷◌, refl, arith}
 use Rattle.rules.specs.Tree.{Name}
 use Rattle.rules.specs.Names.{same}
 use Rattle.rules.specs.Tables.{NameRow, Counts, fresh, look}
@@ -32,23 +31,10 @@ look_missing n [] g = refl
 look_missing n (r ∷ rs) g = grind (arith, look_missing n rs)
 
 module _ (c : Counts) (n : Name) where
-  -- a fact on a name's discounted row
-  by_row : (P : NameRow → Type 0) → P (discount_row c (look n c.names)) → P (look n c.names) → P (look n (discount c))
-  by_row P x y = subst P (sym (look_discount c n c.names))
-      (cond_both (some_name (same n) c.names) _ _ P (λ _. x) (λ g. subst P (look_missing n c.names g) y))
-
   -- outside closed rings nothing is discounted
   pub open_row : closed c n ≡ false → look n (discount c) ≡ look n c.names
-  open_row g =
-      let r = look n c.names in
-      by_row (λ (s : NameRow). s ≡ r)
-      (cond_both (closed c r.name) _ r (λ (s : NameRow). s ≡ r)
-      (λ x. absurd (both_ways (closed c n) g (subst (λ (m : Name). closed c m ≡ true) (look_name n c.names) x))) (λ _. refl))
-      refl
+  open_row g = grind (arith, look_discount c n c.names, look_missing n c.names, look_name n c.names)
 
   -- counted is what was counted
   pub counted_row : (look n (discount c)).counted ≡ (look n c.names).counted
-  counted_row =
-      let r = look n c.names in
-      by_row (λ (s : NameRow). s.counted ≡ r.counted)
-      (cond_both (closed c r.name) _ r (λ (s : NameRow). s.counted ≡ r.counted) (λ _. refl) (λ _. refl)) refl
+  counted_row = grind (arith, look_discount c n c.names, look_missing n c.names)

@@ -4,7 +4,8 @@
 --   Numbered                               a result, or a refusal with such a number
 --   numbered_check, numbered_tables        the check; the tables
 use Rattle.std.specs.Prelude.{if◌then◌else◌}
-use Rattle.std.proofs.Common.{ℕ, zero, suc, ◌≤◌, Bool, true, false, not, ◌||◌, eqb, ltb, List, [], ◌∷◌, length, arith}
+use Rattle.std.proofs.Common.{ℕ, zero, suc, ◌≤◌, Bool, not, ◌||◌, eqb, ltb, List, [], ◌∷◌, length, arith}
+use Rattle.std.proofs.lemmas.Bool.{cond_both}
 use Rattle.rules.specs.Tree.{Head, Chain, Name, name_of}
 use Rattle.rules.specs.Kinds.{member}
 use Rattle.rules.specs.Grammar.{words_fit, Way, children_of, step, misplaced, may_end, root}
@@ -28,8 +29,7 @@ numbered_then (fine a) f n g = g a
 numbered_then (refused number at) f n g = n
 
 numbered_if : {A : Type 0} (b : Bool) (o p : Outcome A) → Numbered o → Numbered p → Numbered (if b then o else p)
-numbered_if true o p n m = n
-numbered_if false o p n m = m
+numbered_if b o p n m = cond_both b o p Numbered (λ _. n) (λ _. m)
 
 -- THE CHECK
 

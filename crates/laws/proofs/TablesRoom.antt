@@ -6,7 +6,7 @@
 --   all_declared, declare_bounded  the declared names, each once
 --   fill_bounded                   names and edges
 use Rattle.std.proofs.Common.{◌≡◌, ℕ, ◌+◌, ◌≤◌, Bool, true, false, ◌&&◌, ltb, leb, List, [], ◌∷◌, length, sym, refl, ap, ◌∙◌, subst, inl, inr, arith}
-use Rattle.std.proofs.lemmas.Bool.{cases_Bool, and_parts, and_from, and_left, and_right, le-leb, lt-leb, ltb-true, ltb-false}
+use Rattle.std.proofs.lemmas.Bool.{cases_Bool, le-leb}
 use Rattle.std.proofs.lemmas.Bool.Decides.{nat_tests}
 use Rattle.std.proofs.lemmas.List.{length-map, length_push}
 use Rattle.rules.specs.Tree.{Head, Name, name_of}
@@ -45,8 +45,8 @@ need_bounded : {Row : Type 0} (is_it : Row → Bool) (new : Row) (space full at 
 need_bounded {Row} is_it new space full at rs h = elim (cases_Bool (some_row is_it rs)) [
   | inl e ↦ rw e (rw (with_row_there is_it new rs e) h, sym (with_row_there is_it new rs e))
   | inr e ↦ rw e (elim (cases_Bool (ltb (length rs) space)) [
-    | inl l ↦ rw l (let k = ltb-true (length rs) space l in let n = size e in le-leb _ _ (omega arith), sym (with_row_new is_it new rs e))
-    | inr l ↦ rw l (let k = ltb-false (length rs) space l in let n = size e in lt-leb _ _ (omega arith))
+    | inl l ↦ rw l (grind (arith, nat_tests, size e), sym (with_row_new is_it new rs e))
+    | inr l ↦ rw l (grind (arith, nat_tests, size e))
   ])
 ]
   where
@@ -137,21 +137,15 @@ larger_filled (e ∷ es) c = larger_than (larger_all e e.holders c) (larger_than
 module _ (space : Room) where
   need_name_bounded : (at : ℕ) (n : Name) (c : Counts) → fits space c ≡ true → Bounded (fits space (name_there n c)) (name_there n c) (need_name space at n c)
   need_name_bounded at n c h =
-      let p = and_parts (leb (length c.names) space.names) (leb (length c.edges) space.edges) h in
       let rows = with_row (row_of n) (fresh n) c.names in
       then_bounded (need (row_of n) (fresh n) space.names names_full at c.names) _ (leb (length rows) space.names) rows (fits space (name_there n c)) (name_there n c)
-      (need_bounded (row_of n) (fresh n) space.names names_full at c.names p.0)
-      (λ q. (and_from (leb (length rows) space.names) (leb (length c.edges) space.edges) q p.1, refl))
-      (λ q. and_left (leb (length rows) space.names) (leb (length c.edges) space.edges) q)
+      (need_bounded (row_of n) (fresh n) space.names names_full at c.names (grind arith)) (λ q. (grind arith, refl)) (λ q. grind arith)
 
   need_edge_bounded : (at : ℕ) (a b : Name) (c : Counts) → fits space c ≡ true → Bounded (fits space (edge_there a b c)) (edge_there a b c) (need_edge space at a b c)
   need_edge_bounded at a b c h =
-      let p = and_parts (leb (length c.names) space.names) (leb (length c.edges) space.edges) h in
       let rows = with_row (edge_of a b) (new_edge a b) c.edges in
       then_bounded (need (edge_of a b) (new_edge a b) space.edges edges_full at c.edges) _ (leb (length rows) space.edges) rows (fits space (edge_there a b c)) (edge_there a b c)
-      (need_bounded (edge_of a b) (new_edge a b) space.edges edges_full at c.edges p.1)
-      (λ q. (and_from (leb (length c.names) space.names) (leb (length rows) space.edges) p.0 q, refl))
-      (λ q. and_right (leb (length c.names) space.names) (leb (length rows) space.edges) q)
+      (need_bounded (edge_of a b) (new_edge a b) space.edges edges_full at c.edges (grind arith)) (λ q. (grind arith, refl)) (λ q. grind arith)
 
   hold_bounded : (e : Event) (hs : List Name) (c : Counts) → fits space c ≡ true → Bounded (fits space (all_held e hs c)) (all_held e hs c) (hold space e hs c)
   hold_bounded e [] c h = (h, refl)
@@ -194,4 +188,4 @@ module _ (space : Room) where
       (full_stays space (larger_filled es (entered e c)))
 
   pub fill_bounded : (es : List Event) → Bounded (fits space (filled es no_rows)) (filled es no_rows) (fill space es no_rows)
-  fill_bounded es = fill_onward es no_rows (and_from (leb 0 space.names) (leb 0 space.edges) (le-leb 0 space.names (omega arith)) (le-leb 0 space.edges (omega arith)))
+  fill_bounded es = fill_onward es no_rows (grind (arith, nat_tests))

@@ -4,7 +4,7 @@
 --
 --   event_row, event_edge      by an event
 --   counted_only               back
-use Rattle.std.proofs.Common.{◌≡◌, Bool, true, false, ◌⊎◌, List, [], ◌∷◌, sym, refl, ◌∙◌, subst, inl, inr, ⊎_elim, arith}
+use Rattle.std.proofs.Common.{◌≡◌, Bool, true, false, ◌⊎◌, List, [], ◌∷◌, sym, refl, ◌∙◌, subst, inl, ⊎_elim, arith}
 use Rattle.std.proofs.lemmas.Bool.{cond_both, cond-true, both_ways, or_left, or_right}
 use Rattle.rules.specs.Tree.{Name}
 use Rattle.rules.specs.Names.{same}
@@ -55,12 +55,7 @@ module _ (p : Name → Name → Bool) where
 
 counted_before : (n : Name) (es : List Event) (c : Counts) → (look n (filled es c).names).counted ≡ true → ((look n c.names).counted ≡ true) ⊎ Counted n es
 counted_before n [] c x = inl x
-counted_before n (e ∷ es) c x = ⊎_elim
-    (λ y.
-    let r = look n c.names in
-    cond_both (same n e.name) (adds e r) r (λ (s : NameRow). s.counted ≡ true → (r.counted ≡ true) ⊎ Counted n (e ∷ es))
-    (λ q _. inr (inl (same_eq n e.name q))) (λ _ z. inl z) (subst (λ (s : NameRow). s.counted ≡ true) (look_entered n e c) y))
-    (λ y. inr (inr y)) (counted_before n es (entered e c) x)
+counted_before n (e ∷ es) c x = grind (arith, counted_before n es (entered e c), look_entered n e c, same_eq n e.name)
 
 -- a counted row has an event of its name
 pub counted_only : (n : Name) (es : List Event) → (look n (filled es no_rows).names).counted ≡ true → Counted n es

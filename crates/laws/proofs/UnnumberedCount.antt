@@ -12,7 +12,7 @@ use Rattle.std.proofs.lemmas.List.Folds.{fold-map}
 use Rattle.std.proofs.lemmas.Simd.{map-map}
 use Rattle.rules.specs.Tree.{Head, Chain, Name, ◌is◌, name_of, unnumbered_head, unnumbered}
 use Rattle.rules.specs.Tree.Chain.{end, link}
-use Rattle.rules.specs.Kinds.{export_declaration, export_name, fn_declaration, class_declaration, var_declaration, declarator, function, identifier, arrow, call_expression, name_pattern, property_name}
+use Rattle.rules.specs.Kinds.{export_declaration, fn_declaration, class_declaration, var_declaration, declarator, function, arrow}
 use Rattle.rules.specs.Names.{names_of, distinct, binds, nests, keep, bound, Under, under_nothing, under, declares, declaring, declared_below, exported}
 use Rattle.rules.specs.Counting.{Event, marked, Found, ◌followed_by◌, Role, Around, reference, reading, readings, marks, named_here, calls_eval, own, opens, leave, inside, count}
 use Rattle.rules.specs.Counting.Role.{declared_here, written, read_and_written}
@@ -43,10 +43,6 @@ filled_unnumbered es c = fold-map (λ (d : Counts) (e : Event). entered e d) unp
 pub names_unnumbered : (hs : List Head) → names_of (unnumbered_heads hs) ≡ names_of hs
 names_unnumbered hs = map-map name_of unnumbered_head hs
 
-keep_unnumbered : (b : Bool) (h : Head) (hs : List Head) → keep b (unnumbered_head h) (unnumbered_heads hs) ≡ unnumbered_heads (keep b h hs)
-keep_unnumbered true h hs = refl
-keep_unnumbered false h hs = refl
-
 -- a record, what is under it if that is wanted, and the rest
 kept_unnumbered : (b n : Bool) (h : Head) (xs ys : List Head) {xs' ys' : List Head} → xs' ≡ unnumbered_heads xs → ys' ≡ unnumbered_heads ys
     → keep b (unnumbered_head h) ((if n then xs' else []) ++ ys') ≡ unnumbered_heads (keep b h ((if n then xs else []) ++ ys))
@@ -75,8 +71,7 @@ followed_unnumbered x y p q =
     ∙ ap₂ ◌followed_by◌ p q
 
 either_unnumbered : (b : Bool) (x y : Found) {x' y' : Found} → unnumbered_found x ≡ x' → unnumbered_found y ≡ y' → unnumbered_found (if b then x else y) ≡ (if b then x' else y')
-either_unnumbered true x y p q = p
-either_unnumbered false x y p q = q
+either_unnumbered b x y p q = grind arith
 
 reference_unnumbered : (a : Around) (w : Bool) (h : Head) → unnumbered_found (reference a w h) ≡ reference a w (unnumbered_head h)
 reference_unnumbered a w h = grind arith
@@ -96,8 +91,7 @@ marks_unnumbered at (n ∷ ns) = ap (λ (es : List Event). marked n 0 ∷ es) (m
 
 -- the marks of some names, if they are made
 marked_if : (b : Bool) (at : ℕ) (ns ms : List Name) → ns ≡ ms → unnumbered_events (if b then marks at ns else []) ≡ (if b then marks 0 ms else [])
-marked_if true at ns ms p = marks_unnumbered at ns ∙ ap (marks 0) p
-marked_if false at ns ms p = refl
+marked_if b at ns ms p = grind (arith, marks_unnumbered at ns)
 
 leave_unnumbered : (h : Head) (children : Chain) (f : Found) → unnumbered_found (leave h children f) ≡ leave (unnumbered_head h) (unnumbered children) (unnumbered_found f)
 leave_unnumbered h children f =
@@ -117,11 +111,7 @@ calls_eval_unnumbered (link h children rest) = refl
 
 own_unnumbered : (a : Around) (h : Head) (children : Chain) → unnumbered_found (own a h children) ≡ own a (unnumbered_head h) (unnumbered children)
 own_unnumbered a h children =
-    either_unnumbered (h is identifier || h is export_name) _ _ (reference_unnumbered a false h)
-    (either_unnumbered (h is property_name) _ _ (reference_unnumbered a true h)
-    (either_unnumbered (h is name_pattern) _ _ (named_here_unnumbered a a.role h)
-    (either_unnumbered (h is call_expression) _ _ (λ i. record { events = []; found_arguments = false; found_direct_eval = calls_eval_unnumbered children i })
-    refl)))
+    grind (arith, reference_unnumbered a false h, reference_unnumbered a true h, named_here_unnumbered a a.role h, calls_eval_unnumbered children)
 
 pub count_unnumbered : (a : Around) (c : Chain) → unnumbered_found (count a c) ≡ count a (unnumbered c)
 count_unnumbered a end = refl

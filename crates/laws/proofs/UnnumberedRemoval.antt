@@ -4,10 +4,10 @@
 --   blind                      a lawful judge does not see record numbers
 --   .. _unnumbered             what is read of a chain; each rule's test; what is done
 --   treat_unnumbered           what is left of a chain
-use Rattle.std.proofs.Common.{◌≡◌, ℕ, Bool, true, false, not, ◌&&◌, ◌||◌, refl, ap, ◌∙◌, ap₂, arith}
+use Rattle.std.proofs.Common.{◌≡◌, ℕ, Bool, true, false, ◌&&◌, ◌||◌, refl, ap, ◌∙◌, ap₂, arith}
 use Rattle.rules.specs.Tree.{Head, Chain, ◌is◌, flagged, is_end, below, after, first_is, first_flagged, first_symbol, first_name, alone, append, unnumbered_head, unnumbered}
 use Rattle.rules.specs.Tree.Chain.{end, link}
-use Rattle.rules.specs.Kinds.{expression_statement, declarator, identifier, name_pattern}
+use Rattle.rules.specs.Kinds.{expression_statement, identifier, name_pattern}
 use Rattle.rules.specs.Judges.{Lawful}
 use Rattle.rules.specs.Removal.{By, Place, place_inside, first_acts, entered, swept, keeps_class, name_goes, all_go, only_identifiers, wraps_object, wrapped_object, class_goes, declarator_goes, import_emptied, var_restates, assignment_yields, Verdict, verdict, become, values, joined, Left, both, done, treated, treat}
 use Rattle.rules.specs.Removal.Verdict.{stays, sweeps, empties, unlinks, restates, yields, unwraps}
@@ -122,7 +122,7 @@ module _ (by : By) (sees_no_number : (c : Chain) → by.config.acts (unnumbered 
 
   all_go_unnumbered : (p : Place) (v : Bool) (c : Chain) → all_go by p v (unnumbered c) ≡ all_go by p v c
   all_go_unnumbered p v end = refl
-  all_go_unnumbered p v (link d parts rest) = ap₂ ◌&&◌ (name_goes_unnumbered p v parts) (all_go_unnumbered p v rest)
+  all_go_unnumbered p v (link d parts rest) = cc (name_goes_unnumbered p v parts, all_go_unnumbered p v rest)
 
   -- the value of a Declarator or an Assignment
   value_unnumbered : (c : Chain) → first_acts by (after (unnumbered c)) ≡ first_acts by (after c)
@@ -132,7 +132,7 @@ module _ (by : By) (sees_no_number : (c : Chain) → by.config.acts (unnumbered 
   class_goes_unnumbered p h c = rw (below_unnumbered c, keeps_class_unnumbered (below c))
 
   declarator_goes_unnumbered : (p : Place) (h : Head) (c : Chain) → declarator_goes by p (unnumbered_head h) (unnumbered c) ≡ declarator_goes by p h c
-  declarator_goes_unnumbered p h c = ap₂ (λ (x y : Bool). h is declarator && (not p.in_export && (x && not y))) (name_goes_unnumbered p p.in_var c) (value_unnumbered c)
+  declarator_goes_unnumbered p h c = cc (name_goes_unnumbered p p.in_var c, value_unnumbered c)
 
   import_emptied_unnumbered : (h : Head) (found c : Chain) → import_emptied by (unnumbered_head h) (unnumbered found) (unnumbered c) ≡ import_emptied by h found c
   import_emptied_unnumbered h found c = rw (is_end_unnumbered found, is_end_unnumbered c)

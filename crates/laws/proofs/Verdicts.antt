@@ -5,19 +5,21 @@
 --   Emptied, Unlinked, Restated, Yielded, Unwrapped, Staying      what each verdict tells
 --   Means, means                                                  the verdict of a record tells it
 --   treated_both                                                  a fact on what is left of a record, by whether the rules enter it
+--   Kept, treated_kept                                            a record that is treated without a change
 --   with_kind, by_list                                            a fact on a record that has a list, by its kind
---   emptying_kind                                                 the kinds that become Empty
+--   emptying_kind, emptied_other                                  the kinds that become Empty
 --   entered_anywhere                                              outside a For it does not matter whether a record comes last
 --   Wraps, wraps                                                  the parts of a Call that wraps an Object
-use Rattle.std.proofs.Common.{◌≡◌, ℕ, Bool, true, false, eqb, List, [], ◌∷◌, refl, arith}
+use Rattle.std.specs.List.{list_all}
+use Rattle.std.proofs.Common.{◌≡◌, ℕ, Bool, true, false, not, eqb, List, [], ◌∷◌, refl, arith}
 use Rattle.std.proofs.lemmas.Bool.{cond_both, both_ways, eqb-true}
 use Rattle.std.proofs.lemmas.Bool.Decides.{nat_tests}
 use Rattle.rules.specs.Tree.{Head, Chain, Name, flagged, name_of, is_end, below, first_is, first_name}
 use Rattle.rules.specs.Tree.Chain.{end, link}
 use Rattle.rules.specs.Kinds.{module_root, script_root, import_item, specifier, block, plain_statement, fn_declaration, class_declaration, var_declaration, for_statement, declarator, function_expression, object, call_expression, assignment, member}
-use Rattle.rules.specs.Removal.{By, Place, unused, never_read, can_drop_binding, has_list, entered, all_go, only_identifiers, wraps_object, wrapped_object, fn_goes, class_goes, declarator_goes, specifier_goes, import_emptied, var_emptied, var_restates, assignment_yields, call_unwraps, Verdict, verdict, Left, unchanged, done, treated}
+use Rattle.rules.specs.Removal.{By, Place, unused, never_read, can_drop_binding, has_list, entered, swept, all_go, only_identifiers, wraps_object, wrapped_object, fn_goes, class_goes, declarator_goes, specifier_goes, import_emptied, var_emptied, var_restates, assignment_yields, call_unwraps, Verdict, verdict, Left, unchanged, done, treated}
 use Rattle.rules.specs.Removal.Verdict.{stays, sweeps, empties, unlinks, restates, yields, unwraps}
-use Rattle.laws.proofs.Basics.{each_member}
+use Rattle.laws.proofs.Basics.{each_member, all_member}
 use Rattle.laws.proofs.Formed.{first_kind}
 
 -- each name of a list is unused
@@ -137,6 +139,13 @@ emptying_kind p h found children (class k x) = rw k
 emptying_kind p h found children (imports k x) = rw k
 emptying_kind p h found children (var k x) = rw k
 
+-- a record of a sort that has none of these kinds
+pub emptied_other : (sort : ℕ → Bool) → list_all (λ k. not (sort k)) emptying_kinds ≡ true → (p : Place) (h : Head) (found children : Chain) → sort h.kind ≡ true →
+    Emptying p h found children → ⊥
+emptied_other sort others p h found children e m =
+    let other = all_member (λ (k : ℕ). not (sort k)) h.kind emptying_kinds others (emptying_kind p h found children m) in
+    grind arith
+
 -- outside a For it does not matter whether a record comes last
 pub entered_anywhere : (p : Place) (h : Head) (children : Chain) (a b : Bool) → eqb p.parent for_statement ≡ false → entered p h children a ≡ entered p h children b
 entered_anywhere p h children a b g = rw g
@@ -146,6 +155,28 @@ pub treated_both : (b : Bool) (by : By) (p : Place) (h : Head) (found : Chain) (
     → (b ≡ true → P (done (verdict by p h found inner.chain) h inner)) → (b ≡ false → P (unchanged (link h found end))) → P (treated b by p h found inner)
 treated_both true by p h found inner P f g = f refl
 treated_both false by p h found inner P f g = g refl
+
+-- what is left of a record is that record, with children of which something is said
+pub record Kept (h : Head) (says : Chain → Type 0) (l : Left) : Type 0 where
+  pub children : Chain
+  pub is_link : l.chain ≡ link h children end
+  pub said : says children
+
+module _ (by : By) (p : Place) (h : Head) (found : Chain) (inner : Left) (says : Chain → Type 0)
+    (stay : Staying by p h inner.chain → inner.changed ≡ false → says inner.chain) (sweep : has_list h ≡ true → inner.changed ≡ false → says (swept inner.chain)) where
+  done_kept : (v : Verdict) → Means by p h found inner.chain v → (done v h inner).changed ≡ false → Kept h says (done v h inner)
+  done_kept stays m g = record { children = inner.chain; is_link = refl; said = stay m g }
+  done_kept sweeps m g = record { children = swept inner.chain; is_link = refl; said = sweep m g }
+  done_kept (empties names) m g = absurd (both_ways true g refl)
+  done_kept (unlinks name) m g = absurd (both_ways true g refl)
+  done_kept restates m g = absurd (both_ways true g refl)
+  done_kept (yields name) m g = absurd (both_ways true g refl)
+  done_kept unwraps m g = absurd (both_ways true g refl)
+
+  -- a record that is treated without a change is kept
+  pub treated_kept : (b : Bool) → (b ≡ false → says found) → (treated b by p h found inner).changed ≡ false → Kept h says (treated b by p h found inner)
+  treated_kept true past g = done_kept (verdict by p h found inner.chain) (means by p h found inner.chain) g
+  treated_kept false past g = record { children = found; is_link = refl; said = past refl }
 
 -- a record with another kind
 abbrev pub with_kind : Head → ℕ → Head

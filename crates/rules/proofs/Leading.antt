@@ -57,10 +57,6 @@ abbrev missing : List EdgeRow → List Name → ℕ
 missing [] ns = 0
 missing (e ∷ es) ns = unless (among e.to ns) + missing es ns
 
--- the end of an edge that does not leave the set
-end_among : (ns : List Name) (e : EdgeRow) (b c : Name) → (b ≡ e.from) × (c ≡ e.to) → open_edge ns e ≡ false → among b ns ≡ true → among c ns ≡ true
-end_among ns e b c z g y = grind arith
-
 shut_none : (es : List EdgeRow) (ns : List Name) → some_row (open_edge ns) es ≡ false → Shut es ns
 shut_none [] ns g b c x y = absurd x
 shut_none (e ∷ es) ns g b c x y = grind (arith, shut_none es ns)
@@ -113,13 +109,13 @@ leads_complete es a b l = reached_found es a (looks es es (a ∷ [])) (looks_kee
 pub leads_told : LeadsTold
 leads_told es a b = (leads_sound es a b, leads_complete es a b)
 
--- the names that lead to n are found among some exactly as those do
-leading_found : (es : List EdgeRow) (n b : Name) (ms : List Name) → among b (leading_to es n ms) ≡ (leads es b n && among b ms)
-leading_found es n b = any-filter_same (same b) (λ m. leads es m n) (leads es b n) (λ m y. rw (same_eq b m y))
+-- a name is kept among those that lead to n exactly if it does
+leading_kept : (es : List EdgeRow) (n b : Name) (ms : List Name) → among b (leading_to es n ms) ≡ (leads es b n && among b ms)
+leading_kept es n b = any-filter_same (same b) (λ m. leads es m n) (leads es b n) (λ m y. rw (same_eq b m y))
 
 pub component_told : ComponentTold
 component_told es a b =
-    let found = leading_found es a b (reach es a) in (
+    let found = leading_kept es a b (reach es a) in (
       (λ h. let r = and_parts (leads es b a) (leads es a b) (sym found ∙ h) in (leads_sound es a b r.1, leads_sound es b a r.0)),
       (λ l. found ∙ and_from (leads es b a) (leads es a b) (leads_complete es b a l.1) (leads_complete es a b l.0)),
     )
