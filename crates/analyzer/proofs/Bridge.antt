@@ -2,7 +2,6 @@
 -- What surrounds a place in the book is seen as the code holds it: of the scopes' paths, the names that hold a reference there, and whether the innermost is empty.
 -- What is found in a part of the tree is entered into a state; one part after another is entered one after another.
 use Rattle.std.specs.Prelude.{if◌then◌else◌}
-use Rattle.names.proofs.Folding.{and_then_alike}
 use Rattle.std.proofs.Math.Bool.{or-false}
 use Rattle.std.proofs.Common.{◌≡◌, Bool, true, false, ◌&&◌, ◌||◌, eqb, List, [], ◌∷◌, ◌++◌, length, sym, refl, ap, ◌∙◌, append_assoc, arith}
 use Rattle.std.proofs.lemmas.Bool.{ne_eqb}
@@ -14,8 +13,8 @@ use Rattle.rules.specs.Counting.{Event, unheld, refer, Found, nothing, ◌follow
 use Rattle.rules.specs.Counting as book
 use Rattle.rules.specs.Refusals.{Outcome, and_then}
 use Rattle.rules.specs.Refusals.Outcome.{fine, refused}
-use Rattle.names.specs.NameWalks.{taken, exports, exports_below, walk_exported}
-use Rattle.tables.specs.declared.key.Id.{Id}
+use Rattle.names.specs.Sinks.{each}
+use Rattle.records.specs.declared.id.Id.{Id}
 use Rattle.data.specs.Events.{Tables, entered}
 use Rattle.data.specs.Filling.{id_of, ids_of, enter_words, fill_words}
 use Rattle.analyzer.specs.declared.notes.Notes.{Notes}
@@ -23,6 +22,10 @@ use Rattle.analyzer.specs.Scopes.{Here, held_with, here_inside, no_notes}
 use Rattle.analyzer.specs.Walk.{State, none_hold, referred, named, leaving, left_scope}
 
 -- what goes on alike ends alike
+pub and_then_alike : {A B : Type 0} (o : Outcome A) (f g : A → Outcome B) → ((a : A) → f a ≡ g a) → and_then o f ≡ and_then o g
+and_then_alike (fine a) f g same = same a
+and_then_alike (refused number at) f g same = refl
+
 pub and_then_assoc : {A B C : Type 0} (o : Outcome A) (f : A → Outcome B) (g : B → Outcome C) → and_then (and_then o f) g ≡ and_then o (λ a. and_then (f a) g)
 and_then_assoc (fine a) f g = refl
 and_then_assoc (refused number at) f g = refl
@@ -185,40 +188,13 @@ named_is a book.read_and_written h s =
     ∙ and_then_alike (entering (reading a h) s) (λ t. referred (seen a) true h t) (λ t. entering (writing a h) t) (λ t. referred_is a true h t)
     ∙ sym (entering_then (reading a h) (writing a h) s)
 
--- a reading before others, if the name is exported
-reads_kept : (a : Around) (b : Bool) (h : Head) (hs : List Head) (s : State)
-    → entering (readings a (keep b h hs)) s ≡ and_then (taken (referred (seen a) false) b h s) (λ t. entering (readings a hs) t)
-reads_kept a true h hs s =
-    entering_then (reading a h) (readings a hs) s
-    ∙ ap (λ (o : Outcome State). and_then o (λ t. entering (readings a hs) t)) (sym (referred_is a false h s))
-reads_kept a false h hs s = refl
-
-reads_joined : (a : Around) (hs ks : List Head) (s : State) → entering (readings a (hs ++ ks)) s ≡ and_then (entering (readings a hs) s) (λ t. entering (readings a ks) t)
-reads_joined a [] ks s = ap (λ (o : Outcome State). and_then o (λ t. entering (readings a ks) t)) (sym (entering_nothing s))
-reads_joined a (h ∷ hs) ks s =
-    entering_then (reading a h) (readings a (hs ++ ks)) s
-    ∙ and_then_alike (entering (reading a h) s) (λ t. entering (readings a (hs ++ ks)) t) (λ t. and_then (entering (readings a hs) t) (λ u. entering (readings a ks) u)) (λ t. reads_joined a hs ks t)
-    ∙ sym (and_then_assoc (entering (reading a h) s) (λ t. entering (readings a hs) t) (λ u. entering (readings a ks) u))
-    ∙ ap (λ (o : Outcome State). and_then o (λ u. entering (readings a ks) u)) (sym (entering_then (reading a h) (readings a hs) s))
-
-reads_chosen : (a : Around) (b : Bool) (hs : List Head) (walk : State → Outcome State) → ((s : State) → walk s ≡ entering (readings a hs) s)
-    → (s : State) → (if b then walk s else fine s) ≡ entering (readings a (if b then hs else [])) s
-reads_chosen a true hs walk same s = same s
-reads_chosen a false hs walk same s = sym (entering_nothing s)
-
-pub exports_are : (a : Around) (c : Chain) (s : State) → walk_exported (referred (seen a) false) c s ≡ entering (readings a (exported c)) s
-exports_are a end s = sym (entering_nothing s)
-exports_are a (link h children rest) s =
-    let below : State → Outcome State = λ t. walk_exported (referred (seen a) false) children t in
-    let under = if exports_below h then exported children else [] in
-    and_then_alike (taken (referred (seen a) false) (exports h) h s)
-    (λ t. and_then (if exports_below h then below t else fine t) (λ u. walk_exported (referred (seen a) false) rest u))
-    (λ t. entering (readings a (under ++ exported rest)) t)
-    (λ t.
-    ap (λ (o : Outcome State). and_then o (λ u. walk_exported (referred (seen a) false) rest u)) (reads_chosen a (exports_below h) (exported children) below (λ u. exports_are a children u) t)
-    ∙ and_then_alike (entering (readings a under) t) (λ u. walk_exported (referred (seen a) false) rest u) (λ u. entering (readings a (exported rest)) u) (λ u. exports_are a rest u)
-    ∙ sym (reads_joined a under (exported rest) t))
-    ∙ sym (reads_kept a (exports h) h (under ++ exported rest) s)
+-- names that are read as they come are the book's readings
+pub readings_are : (a : Around) (hs : List Head) (s : State) → each (referred (seen a) false) hs s ≡ entering (readings a hs) s
+readings_are a [] s = sym (entering_nothing s)
+readings_are a (h ∷ hs) s =
+    ap (λ (o : Outcome State). and_then o (λ t. each (referred (seen a) false) hs t)) (referred_is a false h s)
+    ∙ and_then_alike (entering (reading a h) s) (λ t. each (referred (seen a) false) hs t) (λ t. entering (readings a hs) t) (λ t. readings_are a hs t)
+    ∙ sym (entering_then (reading a h) (readings a hs) s)
 
 -- events that are entered only under a condition
 fill_chosen : (b : Bool) (es : List Event) (t : Tables) → fill_words (if b then es else []) t ≡ (if b then fill_words es t else fine t)

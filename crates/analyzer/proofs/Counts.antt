@@ -2,28 +2,29 @@
 -- Eight kinds do something before, after or around their children; for each of them the tests compute. Any other is walked through, whatever its sort.
 use Rattle.std.specs.Prelude.{if◌then◌else◌}
 use Rattle.std.proofs.Math.Bool.{or-false}
-use Rattle.std.proofs.Common.{◌≡◌, ℕ, Bool, true, false, ◌&&◌, ◌||◌, eqb, List, Ok, Err, Result, sym, refl, ap, ◌∙◌, subst, ⊎_elim, arith, MatchResult}
+use Rattle.std.proofs.Common.{◌≡◌, ℕ, Bool, true, false, ◌&&◌, ◌||◌, eqb, List, take, drop, Some, None, Option, Ok, Err, Result, sym, refl, ap, ◌∙◌, subst, ⊎_elim, arith, MatchResult}
 use Rattle.std.proofs.lemmas.Bool.{cond-false, cases_Bool, eqb-true, or_from}
 use Rattle.rules.specs.Tree.{Head, Chain, ◌is◌, unnumbered_head}
 use Rattle.rules.specs.Tree.Chain.{end, link}
 use Rattle.rules.specs.Kinds.{export_declaration, class_body, property_name, class_member, expression, pattern}
 use Rattle.rules.specs.Names.{exported}
 use Rattle.rules.specs.Counting.{Found, nothing, ◌followed_by◌, Around, reading, writing, readings, named_here, calls_eval, own, opens, leave, inside, outermost, count, events_of}
-use Rattle.rules.specs.Refusals.{Outcome, and_then}
+use Rattle.rules.specs.Refusals.{Outcome, and_then, Says}
 use Rattle.rules.specs.Refusals.Outcome.{fine, refused}
-use Rattle.tables.specs.declared.key.Id.{Id}
+use Rattle.records.specs.declared.id.Id.{Id}
 use Rattle.data.specs.Events.{Tables, tables}
 use Rattle.data.specs.Filling.{fill_words}
-use Rattle.analyzer.specs.declared.counting.Sort.{Sort}
-use Rattle.analyzer.specs.declared.counting.Sort.TheVariants.{Statement, Function, Class, Expression, Pattern}
+use Rattle.analyzer.specs.declared.visit.Sort.{Sort}
+use Rattle.analyzer.specs.declared.visit.Sort.TheVariants.{Statement, Function, Class, Expression, Pattern}
 use Rattle.analyzer.specs.declared.fault.CountFault.{CountFault}
 use Rattle.analyzer.specs.declared.notes.Notes.{Notes}
+use Rattle.analyzer.specs.declared.scope.Role.{Role}
+use Rattle.analyzer.specs.declared.scope.Role.TheVariants.{Written}
 use Rattle.analyzer.specs.declared.scope.Scope.{Scope}
 use Rattle.analyzer.specs.CountFaults.{number as fault_number, place as fault_place}
-use Rattle.analyzer.specs.Scopes.{Here, here, outermost_scope, here_inside, no_notes, with_eval}
+use Rattle.analyzer.specs.Scopes.{Here, here, one, role_of, IsOutermost, here_inside, no_notes, with_eval}
 use Rattle.analyzer.specs.Walk.{State, state, Went, referred, read_exports, named, left_scope, sort_of, visited_by, walk}
-use Rattle.names.proofs.Folding.{and_then_alike}
-use Rattle.analyzer.proofs.Bridge.{and_then_assoc, and_then_fine, Scoped, seen, inside_scoped, inside_seen, entering, entering_then, entering_nothing, referred_is, named_is, exports_are, leave_is}
+use Rattle.analyzer.proofs.Bridge.{and_then_alike, and_then_assoc, and_then_fine, Scoped, seen, inside_scoped, inside_seen, entering, entering_then, entering_nothing, referred_is, named_is, readings_are, leave_is}
 
 -- what a record gives before its children, and what its children give as it is left
 abbrev before : Around → Head → Chain → Found
@@ -89,7 +90,7 @@ module _ (a : Around) (n flags symbol mark : ℕ) (children : Chain) (below : He
   at_export_declaration walked s =
       three (read_exports (seen a) children s) (entering (readings a (exported children)) s)
       (λ t. below (here_inside (seen a) (unnumbered_head (head 5))) t) (λ t. entering inner t) (λ u. fine u) (λ u. entering nothing u)
-      (exports_are a children s) walked (λ u. sym (entering_nothing u))
+      (readings_are a (exported children) s) walked (λ u. sym (entering_nothing u))
 
   at_export_name : Visits 7
   unfolding sort_of
@@ -254,19 +255,26 @@ events_fine f s u o e is_fine = fine_back (fill_words f.events s.tables) _ _ u (
 events_refused : (f : Found) (s : State) (o : Outcome State) (number at : ℕ) → o ≡ entering f s → o ≡ refused number at → fill_words f.events s.tables ≡ refused number at
 events_refused f s o number at e is-refused = refused_back (fill_words f.events s.tables) _ _ number at (sym e ∙ is-refused)
 
-from_outermost : {A : Type 0} (tree : Chain) (path : List Id) (names edges : List ℕ) (u : State) (result : Result A CountFault)
-    → Went (walk (here outermost_scope path) tree (state names edges no_notes)) result u
-    → MatchResult result (λ _. fill_words (events_of tree) (tables names edges) ≡ fine u.tables) (λ e. fill_words (events_of tree) (tables names edges) ≡ refused (fault_number e) (fault_place e))
-from_outermost tree path names edges u (Ok x) e =
+from_outermost : {A : Type 0} (tree : Chain) (names edges : List ℕ) (u : State) (result : Result A CountFault)
+    → Went (walk (seen outermost) tree (state names edges no_notes)) result u
+    → Says (fill_words (events_of tree) (tables names edges)) (λ _. u.tables) fault_number fault_place result
+from_outermost tree names edges u (Ok x) e =
     events_fine (count outermost tree) (state names edges no_notes) u _ (walk_counts outermost tree (state names edges no_notes) tt) e
-from_outermost tree path names edges u (Err fault) e =
+from_outermost tree names edges u (Err fault) e =
     events_refused (count outermost tree) (state names edges no_notes) _ _ _ (walk_counts outermost tree (state names edges no_notes) tt) e
+
+-- the outermost scope, by its fields
+at_outermost : (start len : ℕ) (fresh : Bool) (cur_fn cur_class : Option Id) (role : Role) (path : List Id)
+    → start ≡ 0 → len ≡ 0 → fresh ≡ true → cur_fn ≡ None → cur_class ≡ None → role ≡ Written
+    → ◌≡◌ {A = Here} (record { cur_fn = one cur_fn; cur_class = one cur_class; held = drop start (take len path); fresh = fresh; role = role_of role }) (seen outermost)
+at_outermost start len fresh cur_fn cur_class role path a b c d e f = rw (a, b, c, d, e, f) refl
 
 -- a walk of a tree from the outermost scope ends as its events do
 pub tree_counted : {A : Type 0} (tree : Chain) (scope : Scope) (path : List Id) (names edges : List ℕ) (notes : Notes) (u : State) (result : Result A CountFault)
-    → scope ≡ outermost_scope → notes ≡ no_notes → Went (walk (here scope path) tree (state names edges notes)) result u
-    → MatchResult result (λ _. fill_words (events_of tree) (tables names edges) ≡ fine u.tables) (λ e. fill_words (events_of tree) (tables names edges) ≡ refused (fault_number e) (fault_place e))
-tree_counted tree scope path names edges notes u result is-outermost is_none went =
-    from_outermost tree path names edges u result
-    (subst (λ (x : Notes). Went (walk (here outermost_scope path) tree (state names edges x)) result u) is_none
-    (subst (λ (x : Scope). Went (walk (here x path) tree (state names edges notes)) result u) is-outermost went))
+    → IsOutermost scope → notes ≡ no_notes → Went (walk (here scope path) tree (state names edges notes)) result u
+    → Says (fill_words (events_of tree) (tables names edges)) (λ _. u.tables) fault_number fault_place result
+tree_counted tree scope path names edges notes u result root none went =
+    from_outermost tree names edges u result
+    (subst (λ (x : Notes). Went (walk (seen outermost) tree (state names edges x)) result u) none
+    (subst (λ (x : Here). Went (walk x tree (state names edges notes)) result u)
+    (at_outermost scope.start scope.len scope.fresh scope.cur_fn_id scope.cur_class_id scope.role path root.0 root.1 root.2 root.3 root.4 root.5) went))

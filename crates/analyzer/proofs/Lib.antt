@@ -3,6 +3,6 @@ mod Named
 mod Fills
 mod Paths
 mod Walks
-mod Leaves
 mod Bridge
 mod Counts
+mod Readings

@@ -1,7 +1,7 @@
 -- The path as a list: what stands on it between two places, and what one more name leaves.
 use Rattle.std.proofs.Common.{◌≡◌, ℕ, ◌+◌, ◌-◌, ◌<◌, ◌≤◌, Bool, true, false, List, [], ◌∷◌, ◌++◌, length, take, drop, set, sym, ap, ◌∙◌, arith}
 use Rattle.std.proofs.lemmas.List.{drop-take, drop_all, drop-append-le, length-take-le, take_more_set, take-take, take-set}
-use Rattle.tables.specs.declared.key.Id.{Id}
+use Rattle.records.specs.declared.id.Id.{Id}
 use Rattle.analyzer.specs.Scopes.{held_with}
 
 -- a part of the path, as the code takes it

@@ -9,13 +9,14 @@ use Rattle.rules.specs.Refusals.{Outcome}
 use Rattle.rules.specs.Refusals.Outcome.{fine, refused}
 use Rattle.rules.specs.Tables.{Room, declared_width, read_declared}
 use Rattle.rules.specs.Calls.{fill_declared, declared_after}
-use Rattle.tables.specs.declared.key.Id.{Id}
+use Rattle.records.specs.declared.id.Id.{Id}
+use Rattle.records.specs.Ids.{name_of_id}
 use Rattle.tables.specs.declared.fault.TableFault.{TableFault}
 use Rattle.tables.specs.declared.fault.TableFault.TheVariants.{Declared}
 use Rattle.tables.specs.Faults.{number, place}
 use Rattle.tables.specs.Living.{rows, first_row}
 use Rattle.tables.specs.Inserting.{answered, placed}
-use Rattle.tables.specs.Matching.{id_keyed, id_words, name_of_id}
+use Rattle.tables.specs.Matching.{id_keyed, id_words}
 
 -- what a table answers and leaves, as the book's outcome
 abbrev pub told : Result ℕ TableFault → List ℕ → Outcome (List ℕ)

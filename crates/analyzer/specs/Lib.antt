@@ -2,3 +2,5 @@ pub mod Declaring
 pub mod CountFaults
 pub mod Scopes
 pub mod Walk
+pub mod Visits
+pub mod Readings

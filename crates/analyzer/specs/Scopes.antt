@@ -2,16 +2,15 @@
 --
 --   role_of, one, id_of_head                     the code's role, current name and key as the book's
 --   Here, here, held_with, here_inside           what surrounds a place, by the names that hold a reference there
---   outermost_scope                              what surrounds the root
+--   IsOutermost                                  what surrounds the root
 --   no_notes, with_arguments, with_eval, outward      what the innermost scope has noted
-use Rattle.std.specs.Prelude.{Bool, true, false, ◌&&◌, ◌||◌, List, [], ◌∷◌, ◌++◌, take, drop, Some, None, Option, ◌==◌, if◌then◌else◌}
+use Rattle.std.specs.Prelude.{◌≡◌, Bool, true, false, ◌&&◌, ◌||◌, List, [], ◌∷◌, ◌++◌, take, drop, Some, None, Option, ◌==◌, if◌then◌else◌}
 use Rattle.rules.specs.Tree.{Head, Name, ◌is◌, name_of}
 use Rattle.rules.specs.Kinds.{fn_declaration, class_declaration, arrow, arguments_symbol}
 use Rattle.rules.specs.Counting.{opens, role_in}
 use Rattle.rules.specs.Counting as book
-use Rattle.tables.specs.declared.key.Id.{Id}
-use Rattle.tables.specs.Matching.{name_of_id}
-use Rattle.data.specs.Filling.{id_of}
+use Rattle.records.specs.declared.id.Id.{Id}
+use Rattle.records.specs.Ids.{name_of_id}
 use Rattle.analyzer.specs.declared.notes.Notes.{Notes}
 use Rattle.analyzer.specs.declared.scope.Role.{Role}
 use Rattle.analyzer.specs.declared.scope.Role.TheVariants.{Declared, Written, ReadAndWritten}
@@ -30,7 +29,7 @@ one (Some id) = name_of_id id ∷ []
 
 -- the key of the name that a record bears
 abbrev pub id_of_head : Head → Id
-id_of_head h = id_of (name_of h)
+id_of_head h = record { symbol = h.symbol; mark = h.mark }
 
 -- what surrounds a place: the names of the innermost function and class, those that hold a reference,
 -- whether the innermost scope has put no name on the path yet, and the role of a Name pattern
@@ -52,8 +51,9 @@ here scope path = record {
 }
 
 -- what surrounds the root
-abbrev pub outermost_scope : Scope
-outermost_scope = record { start = 0; len = 0; fresh = true; cur_fn_id = None; cur_class_id = None; role = Written }
+abbrev pub IsOutermost : Scope → Type 0
+IsOutermost s =
+    (s.start ≡ 0) × (s.len ≡ 0) × (s.fresh ≡ true) × (s.cur_fn_id ≡ None) × (s.cur_class_id ≡ None) × (s.role ≡ Written)
 
 -- the names that hold a reference, once the innermost scope has put one more on the path
 abbrev pub held_with : (fresh : Bool) → List Id → Id → List Id

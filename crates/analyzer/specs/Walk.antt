@@ -4,30 +4,29 @@
 --   State, state, Went                        the tables' words and the innermost scope's notes; how a step ends
 --   none_hold, referred, read_exports         a reference; a reading of each name that an Export declaration declares
 --   assigned                                  a Name pattern by its role, a Property name
+--   marked_below, marked_parameters           what `eval` and `arguments` mark where they were found
 --   leaving, left_scope                       what leaving a scope marks; and what it notes outward
 --   sort_of                                   which function of the code visits a kind
 --   statement_by, .. , visited_by             a record of each sort, of any, given the walk of its children
 --   walk                                      a chain
 --   visited                                   a record, its children walked
---   Roomy                                     the path has room for the nesting that is left
 use Rattle.std.specs.Prelude.{◌≡◌, ℕ, ◌+◌, ◌≤◌, Bool, true, false, ◌&&◌, ◌||◌, List, [], length, Result, MatchResult, ◌==◌, if◌then◌else◌}
 use Rattle.rules.specs.Tree.{Head, Chain, ◌is◌, name_of, unnumbered_head}
 use Rattle.rules.specs.Tree.Chain.{end, link}
 use Rattle.rules.specs.Kinds.{export_declaration, export_name, function, class_body, identifier, arrow, call_expression, name_pattern, property_name, expression, pattern, class_member}
-use Rattle.rules.specs.Names.{among, names_of, distinct, bound, declared_below}
+use Rattle.rules.specs.Names.{among, names_of, distinct, bound, declared_below, exported}
 use Rattle.rules.specs.Counting.{marks, calls_eval}
 use Rattle.rules.specs.Counting as book
-use Rattle.rules.specs.Refusals.{Outcome, and_then}
+use Rattle.rules.specs.Refusals.{Outcome, and_then, Says}
 use Rattle.rules.specs.Refusals.Outcome.{fine, refused}
-use Rattle.names.specs.NameWalks.{walk_exported}
-use Rattle.tables.specs.declared.key.Id.{Id}
+use Rattle.names.specs.Sinks.{each}
+use Rattle.records.specs.declared.id.Id.{Id}
 use Rattle.data.specs.Events.{Tables, tables, entered}
 use Rattle.data.specs.Filling.{fill_words}
-use Rattle.analyzer.specs.declared.counting.Sort.{Sort}
-use Rattle.analyzer.specs.declared.counting.Sort.TheVariants.{Statement, Function, Class, Expression, Pattern}
+use Rattle.analyzer.specs.declared.visit.Sort.{Sort}
+use Rattle.analyzer.specs.declared.visit.Sort.TheVariants.{Statement, Function, Class, Expression, Pattern}
 use Rattle.analyzer.specs.declared.fault.CountFault.{CountFault}
 use Rattle.analyzer.specs.declared.notes.Notes.{Notes}
-use Rattle.analyzer.specs.declared.scope.Scope.{Scope}
 use Rattle.analyzer.specs.CountFaults.{number, place}
 use Rattle.analyzer.specs.Scopes.{id_of_head, Here, here_inside, no_notes, with_arguments, with_eval, outward}
 
@@ -41,7 +40,7 @@ state names edges notes = record { tables = tables names edges; notes = notes }
 
 -- a step of the code ends as it is said, with this state or this fault
 abbrev pub Went : {A : Type 0} → Outcome State → Result A CountFault → State → Type 0
-Went outcome result s = MatchResult result (λ _. outcome ≡ fine s) (λ fault. outcome ≡ refused (number fault) (place fault))
+Went outcome result s = Says outcome (λ _. s) number place result
 
 -- nobody holds a reference
 abbrev pub none_hold : List Id → Bool
@@ -57,7 +56,7 @@ referred a writes h s =
 
 -- a reading of each name that an Export declaration with these children declares
 abbrev pub read_exports : Here → Chain → State → Outcome State
-read_exports a children s = walk_exported (referred a false) children s
+read_exports a children s = each (referred a false) (exported children) s
 
 -- a Name pattern by its role
 abbrev pub named : Here → book.Role → Head → State → Outcome State
@@ -72,11 +71,19 @@ assigned a h s =
     else if h is property_name then referred a true h s
     else fine s
 
+-- after a direct call of `eval`, each name declared below the scope that h opens is marked once
+abbrev pub marked_below : Head → Chain → Notes → Tables → Outcome Tables
+marked_below h children found t =
+    if found.found_direct_eval then fill_words (marks h.number (distinct [] (names_of (declared_below h children)))) t else fine t
+
+-- after a reference to `arguments`, each bound name of a Function's parameters is marked
+abbrev pub marked_parameters : Head → Chain → Notes → Tables → Outcome Tables
+marked_parameters h children found t =
+    if found.found_arguments && h is function then fill_words (marks h.number (names_of (bound children))) t else fine t
+
 -- what leaving the scope that h opens marks, by what it has noted
 unfoldable pub leaving : Head → Chain → Notes → Tables → Outcome Tables
-leaving h children found t =
-    and_then (if found.found_direct_eval then fill_words (marks h.number (distinct [] (names_of (declared_below h children)))) t else fine t) (λ u.
-    if found.found_arguments && h is function then fill_words (marks h.number (names_of (bound children))) u else fine u)
+leaving h children found t = and_then (marked_below h children found t) (λ u. marked_parameters h children found u)
 
 -- leaving that scope with a state, where the outer scope has its own notes
 abbrev pub left_scope : Head → Chain → (outer : Notes) → State → Outcome State
@@ -138,8 +145,3 @@ walk a (link h children rest) s =
 -- a record, its children walked
 abbrev pub visited : Sort → Here → Head → Chain → State → Outcome State
 visited sort a h children s = visited_by sort (λ b t. walk b children t) a h children s
-
--- the path has room for the nesting that is left
-pub record Roomy (scope : Scope) (places left : ℕ) : Type 0 where
-  pub start : scope.start ≤ scope.len
-  pub room : scope.len + left ≤ places

@@ -5,7 +5,9 @@ ghost use Rattle.rules.specs.Check.{most_nesting};
 ghost use Rattle.rules.specs.Held.{Tree};
 ghost use Rattle.rules.specs.Names.{declared};
 ghost use Rattle.rules.specs.Opening.{depth};
-ghost use Rattle.rules.specs.Refusals.Outcome.{fine, refused};
+ghost use Rattle.rules.specs.Refusals.{Says};
+ghost use Rattle.rules.specs.Refusals.Outcome.{fine};
+ghost use Rattle.records.specs.Chains.{as_chain};
 ghost use Rattle.rules.specs.Tables.{Room, declared_width, read_declared};
 ghost use Rattle.rules.specs.Tree.{Chain};
 ghost use Rattle.rules.specs.Words.{tree_of, Whole};
@@ -14,14 +16,8 @@ ghost use Rattle.tables.specs.Faults.{number as number_of, place as place_of};
 ghost use Rattle.analyzer.specs.Declaring.{declare_key, declare_words, FilledDeclared, FullDeclared};
 
 use names::{NameSink, declared_names};
-use records::Record;
-use tables::{Declared, Id, TableFault, has_row, zero_rows};
-
-/// The number of a tree's first record.
-const ROOT: u32 = 1;
-
-/// The most records on a way down.
-const MOST_NESTING: u32 = 128;
+use records::{Children, Id, MOST_NESTING, ROOT, Record};
+use tables::{BookRow, Declared, TableFault, has_row, zero_rows};
 
 /// The table of the declared names, as names come to it.
 #[derive(Drop)]
@@ -47,35 +43,26 @@ impl<'t> NameSink for Declaring<'t> {
     ghost place = { place_of };
 
     fn take(&mut self, n: u32, bearer: Record) -> Result<(), TableFault> {
-        declare(
-            self.table,
-            Id {
-                symbol: bearer.symbol,
-                mark: bearer.mark,
-            },
-            n,
-        )
+        declare(self.table, bearer.id(), n)
     }
 }
 
 /// Makes a name one of the declared: it is there, or gets the first free row. The record `at` bears it.
 fn declare(table: &mut [u32], id: Id, at: u32) -> Result<(), TableFault>
-    ensures names { MatchResult result (λ _. declare_key id at table.old ≡ fine table.new) (λ e. declare_key id at table.old ≡ refused (number_of e) (place_of e)) }
+    ensures names { Says (declare_key id at table.old) (λ _. table.new) number_of place_of result }
     ensures behind { zeroed declared_width table.new ≡ zeroed declared_width table.old }
 {
     Declared::need(table, id, at)?;
     Ok(())
 }
 
-/// Makes the names declared in the chain from the link on, and below it, declared.
-fn collect_decls(words: &[u32], first: u32, left: u32, table: &mut [u32]) -> Result<(), TableFault>
-    requires whole { Whole words.now first }
-    requires deep { depth (tree_of words.now first) ≤ left }
-    ensures names { MatchResult result (λ _. each declare_words (declared (tree_of words.now first)) table.old ≡ fine table.new) (λ e. each declare_words (declared (tree_of words.now first)) table.old ≡ refused (number_of e) (place_of e)) }
+/// Makes the names declared in the chain and below it declared.
+fn collect_decls(chain: Children<'_>, table: &mut [u32]) -> Result<(), TableFault>
+    ensures names { Says (each declare_words (declared (as_chain chain.entry)) table.old) (λ _. table.new) number_of place_of result }
     ensures behind { zeroed declared_width table.new ≡ zeroed declared_width table.old }
 {
     let mut declaring = Declaring { table };
-    declared_names(words, first, left, &mut declaring)
+    declared_names(chain, &mut declaring)
 }
 
 /// Whether the table has a row. Such a table is filled, whatever the tree; another reads as no names.
@@ -98,7 +85,7 @@ pub fn fill_declared(words: &[u32], table: &mut [u32]) -> Result<(), TableFault>
         return Ok(());
     }
     zero_rows::<Declared>(table);
-    match collect_decls(words, ROOT, MOST_NESTING, table) {
+    match collect_decls(Children::within(words, ROOT, MOST_NESTING), table) {
         Ok(()) => Ok(()),
         Err(fault) => {
             zero_rows::<Declared>(table);

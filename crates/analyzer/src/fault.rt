@@ -4,7 +4,7 @@ ghost use Rattle.analyzer.specs.declared.fault.CountFault.TheVariants.{Table};
 use tables::TableFault;
 
 /// Why a count stops.
-#[derive(Clone, Copy)]
+#[derive(Clone, Copy, PartialEq, Eq, Debug)]
 pub enum CountFault {
     /// A table has no whole row free.
     Table(TableFault),

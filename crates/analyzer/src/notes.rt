@@ -1,10 +1,10 @@
 ghost use Rattle.std.specs.Prelude.{◌≡◌};
 ghost use Rattle.rules.specs.Counting.{calls_eval};
-ghost use Rattle.rules.specs.Words.{tree_of, Whole};
+ghost use Rattle.records.specs.Chains.{as_chain};
 ghost use Rattle.records.specs.Reads.{head_of};
 ghost use Rattle.analyzer.specs.Scopes.{no_notes, with_arguments, outward};
 
-use records::{Kind, Record};
+use records::{Children, Kind, Record};
 
 /// The symbol of `arguments`.
 const ARGUMENTS: u32 = 1;
@@ -36,7 +36,7 @@ impl Notes {
     {
         Notes {
             found_arguments: self.found_arguments || node.symbol == ARGUMENTS,
-            found_direct_eval: self.found_direct_eval,
+            ..self
         }
     }
 
@@ -46,19 +46,16 @@ impl Notes {
     {
         Notes {
             found_arguments: self.found_arguments
-                || (inner.found_arguments && node.kind.is(Kind::Arrow)),
+                || (inner.found_arguments && node.kind == Kind::Arrow),
             found_direct_eval: self.found_direct_eval || inner.found_direct_eval,
         }
     }
 }
 
-/// Whether the callee, which the link leads to, is an Identifier `eval`.
-pub(crate) fn calls_eval(words: &[u32], first: u32) -> bool
-    requires { Whole words.now first }
-    ensures { result ≡ calls_eval (tree_of words.now first) }
+/// Whether the callee, which is the first of a Call's children, is an Identifier `eval`.
+pub(crate) fn calls_eval(children: Children<'_>) -> bool
+    ensures { result ≡ calls_eval (as_chain children.entry) }
 {
-    match Record::linked(words, first) {
-        Some(callee) => callee.kind.is(Kind::Identifier) && callee.symbol == EVAL,
-        None => false,
-    }
+    children.first().is_some_and(|callee| callee.record.kind == Kind::Identifier
+        && callee.record.symbol == EVAL)
 }

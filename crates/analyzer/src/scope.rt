@@ -1,13 +1,8 @@
-ghost use Rattle.std.specs.Prelude.{◌≡◌, ◌+◌, ◌<◌, ◌≤◌, false, ◌||◌, List, length, take, drop};
-ghost use Rattle.rules.specs.Counting.{opens, role_in};
-ghost use Rattle.rules.specs.Names.{among};
+ghost use Rattle.std.specs.Prelude.{◌≡◌, ◌≤◌};
+ghost use Rattle.rules.specs.Counting.{opens};
 ghost use Rattle.records.specs.Reads.{head_of};
-ghost use Rattle.tables.specs.declared.key.Id.{Id};
-ghost use Rattle.tables.specs.Matching.{name_of_id};
-ghost use Rattle.analyzer.specs.Scopes.{role_of, one, id_of_head, outermost_scope, held_with, here, here_inside};
 
-use records::{Kind, Record};
-use tables::{Id, LawfulEq};
+use records::{Id, Kind, Record};
 
 /// What a Name pattern does where it stands.
 #[derive(Clone, Copy)]
@@ -30,27 +25,19 @@ pub(crate) struct Scope {
     pub(crate) cur_fn_id: Option<Id>,
     pub(crate) cur_class_id: Option<Id>,
     pub(crate) role: Role,
-}
-
-/// What surrounds the children of a record while they are visited. What surrounds the record comes back at the end.
-pub(crate) struct Entered<'a> {
-    pub(crate) scope: &'a mut Scope,
-    pub(crate) saved: Scope,
-}
-
-impl Drop for Entered<'_> {
-    fn drop(self)
-        ensures { self.exit.0.now ≡ self.entry.saved }
-    {
-        *self.scope = self.saved;
-        let Entered { scope: _, saved: _ } = self;
-    }
+    ghost ordered: { start ≤ len },
 }
 
 impl Scope {
+    ghost use Rattle.std.specs.Prelude.{◌+◌, ◌<◌, false, ◌||◌, List, length, take, drop};
+    ghost use Rattle.rules.specs.Names.{among};
+    ghost use Rattle.records.specs.declared.id.Id.{Id};
+    ghost use Rattle.records.specs.Ids.{name_of_id};
+    ghost use Rattle.analyzer.specs.Scopes.{one, IsOutermost, held_with, here, here_inside};
+
     /// What surrounds the root: the outermost scope.
     pub(crate) fn outermost() -> Scope
-        ensures { result ≡ outermost_scope }
+        ensures { IsOutermost result }
     {
         Scope {
             start: 0,
@@ -66,20 +53,18 @@ impl Scope {
     pub(crate) fn is_own(&self, id: Id) -> bool
         ensures { result ≡ (among (name_of_id id) (one self.now.cur_fn_id) || among (name_of_id id) (one self.now.cur_class_id)) }
     {
-        is_it(self.cur_fn_id, id) || is_it(self.cur_class_id, id)
+        self.cur_fn_id == Some(id) || self.cur_class_id == Some(id)
     }
 
     /// Puts a name on the innermost scope's path.
     fn push(&mut self, path: &mut [Id], id: Id)
-        requires start { self.old.start ≤ self.old.len }
-        requires room { self.old.len < length path.old }
+        requires { self.old.len < length path.old }
         ensures held { drop self.new.start (take self.new.len path.new) ≡ held_with self.old.fresh (drop self.old.start (take self.old.len path.old)) id }
         ensures fresh { self.new.fresh ≡ false }
         ensures function { self.new.cur_fn_id ≡ self.old.cur_fn_id }
         ensures class { self.new.cur_class_id ≡ self.old.cur_class_id }
         ensures role { self.new.role ≡ self.old.role }
         ensures len { self.new.len ≡ self.old.len + 1 }
-        ensures start { self.new.start ≤ self.new.len }
         ensures kept { (q : List Id) → take self.new.len q ≡ take self.new.len path.new → take self.old.len q ≡ take self.old.len path.old }
     {
         let len = self.len;
@@ -93,19 +78,17 @@ impl Scope {
 
     /// Goes from what surrounds a record to what surrounds its children.
     pub(crate) fn enter(&mut self, path: &mut [Id], node: Record)
-        requires start { self.old.start ≤ self.old.len }
-        requires room { self.old.len < length path.old }
+        requires { self.old.len < length path.old }
         ensures here { here self.new path.new ≡ here_inside (here self.old path.old) (head_of 0 node) }
         ensures len { self.new.len ≤ self.old.len + 1 }
-        ensures start { self.new.start ≤ self.new.len }
         ensures kept { (q : List Id) → take self.new.len q ≡ take self.new.len path.new → take self.old.len q ≡ take self.old.len path.old }
     {
-        let id = id_of(node);
+        let id = node.id();
         let role = self.role.inside(node);
-        if node.kind.is(Kind::FnDeclaration) {
+        if node.kind == Kind::FnDeclaration {
             self.push(path, id);
             self.cur_fn_id = Some(id);
-        } else if node.kind.is(Kind::ClassDeclaration) {
+        } else if node.kind == Kind::ClassDeclaration {
             self.push(path, id);
             self.cur_class_id = Some(id);
         } else if opens_scope(node) {
@@ -116,15 +99,18 @@ impl Scope {
 }
 
 impl Role {
+    ghost use Rattle.rules.specs.Counting.{role_in};
+    ghost use Rattle.analyzer.specs.Scopes.{role_of};
+
     /// The role of a Name pattern among the children of a record.
     fn inside(self, node: Record) -> Role
         ensures { role_of result ≡ role_in (role_of self) (head_of 0 node) }
     {
-        if node.kind.is(Kind::Declarator) {
+        if node.kind == Kind::Declarator {
             Role::Declared
-        } else if node.kind.is(Kind::Assignment) && node.flags == 1 {
+        } else if node.kind == Kind::Assignment && node.flags == 1 {
             Role::ReadAndWritten
-        } else if node.kind.is(Kind::CompoundPattern) || node.kind.is(Kind::DefaultPattern) {
+        } else if node.kind == Kind::CompoundPattern || node.kind == Kind::DefaultPattern {
             self
         } else {
             Role::Written
@@ -132,29 +118,9 @@ impl Role {
     }
 }
 
-/// The name that a record bears.
-pub(crate) fn id_of(node: Record) -> Id
-    ensures { result ≡ id_of_head (head_of 0 node) }
-{
-    Id {
-        symbol: node.symbol,
-        mark: node.mark,
-    }
-}
-
 /// Whether a record opens a scope.
 fn opens_scope(node: Record) -> bool
     ensures { result ≡ opens (head_of 0 node) }
 {
-    node.kind.is(Kind::Function) || node.kind.is(Kind::Arrow)
-}
-
-/// Whether a name is the current one.
-fn is_it(current: Option<Id>, id: Id) -> bool
-    ensures { result ≡ among (name_of_id id) (one current) }
-{
-    match current {
-        Some(own) => id.is_same(&own),
-        None => false,
-    }
+    node.kind == Kind::Function || node.kind == Kind::Arrow
 }

@@ -1,4 +1,9 @@
-ghost use Rattle.std.specs.Prelude.{◌^◌, ◌<◌, length};
+ghost use Rattle.std.specs.Prelude.{◌≡◌, ◌^◌, ◌<◌, length};
+ghost use Rattle.rules.specs.Calls.{zeroed};
+ghost use Rattle.rules.specs.Refusals.{Says};
+ghost use Rattle.rules.specs.Tables.{names_width, edges_width};
+ghost use Rattle.tables.specs.Faults.{number, place};
+ghost use Rattle.data.specs.Events.{tables, entered};
 
 use crate::event::{Event, count_name, needed};
 use records::Id;
@@ -13,9 +18,7 @@ pub struct Data<'t> {
 }
 
 impl<'t> Data<'t> {
-    ghost use Rattle.rules.specs.Refusals.{Says};
-    ghost use Rattle.tables.specs.Faults.{number, place};
-    ghost use Rattle.data.specs.Events.{joined, entered};
+    ghost use Rattle.data.specs.Events.{joined};
     ghost use Rattle.data.specs.Keeping.{words_of, Kept};
 
     /// Counts a reference: adds to the edge from each holder to the name, and to the name's counts.
@@ -46,4 +49,20 @@ impl<'t> Data<'t> {
         Edges::add(self.edges, row, event.by);
         Ok(())
     }
+}
+
+/// Counts a reference into words of names and edges: adds to the edge from each holder to the name, and to the name's counts.
+pub fn add_reference<'t>(
+    names: &'t mut [u32],
+    edges: &'t mut [u32],
+    holders: &[Id],
+    event: Event,
+) -> Result<(), TableFault>
+    requires short { length names.old < 2 ^ 32 }
+    ensures is { Says (entered event.id event.by.usage event.by.assign event.entry event.at holders.now (tables names.old edges.old)) (λ _. tables names.new edges.new) number place result }
+    ensures names_behind { zeroed names_width names.new ≡ zeroed names_width names.old }
+    ensures edges_behind { zeroed edges_width edges.new ≡ zeroed edges_width edges.old }
+{
+    let mut data = Data { names, edges };
+    data.add(holders, event)
 }

@@ -1,7 +1,8 @@
 -- What the table answers and leaves is told, and what lies behind its rows stays.
 use Rattle.std.proofs.Common.{refl, rules}
 use Rattle.rules.specs.Tables.{declared_width}
-use Rattle.tables.specs.Matching.{id_words, name_of_id}
+use Rattle.records.specs.Ids.{name_of_id}
+use Rattle.tables.specs.Matching.{id_words}
 use Rattle.analyzer.proofs.Declares.{told_as}
 use Rattle.tables.proofs.Behind.{placed_zeroed}
 use Rattle.analyzer.proofs.declaring.declare.Goals as goal

@@ -1,5 +1,6 @@
 -- The words of a table without rows agree with the book's rows, name by name, from the zeroed table on.
-use Rattle.std.proofs.Common.{[], rules}
+use Rattle.std.proofs.Common.{◌≡◌, [], rules}
+use Rattle.records.specs.Chains.{as_chain}
 use Rattle.rules.specs.Grammar.{root}
 use Rattle.rules.specs.Names.{declared, under_nothing}
 use Rattle.rules.specs.Tables.{declared_width}
@@ -13,16 +14,18 @@ use Rattle.analyzer.proofs.declaring.fill_declared.Goals as goal
 pub returns-in-Ok : goal.returns-in-Ok
 returns-in-Ok c =
     let tree = tree_of c.args.words.now 1 in
+    let same : as_chain c.within.result ≡ tree = cc in
     let table = c.args.table.now in
     agreed_fills tree table c.collect_decls.new.table _ (c.is_filled.ensures.none (search rules))
     (declares_agree table (declared tree) [] c.zero_rows.new.table (declared_named root under_nothing tree c.requires.tree.formed) (zeroed_holds table _ c.zero_rows.ensures.words))
-    c.in-Ok.ensures.names
+    (rw same at c.in-Ok.ensures.names)
 
 pub returns-in-Err : goal.returns-in-Err
 returns-in-Err c =
     let tree = tree_of c.args.words.now 1 in
+    let same : as_chain c.within.result ≡ tree = cc in
     let table = c.args.table.now in
     agreed_full tree _ _ table _ _ (c.is_filled.ensures.none (search rules))
     (declares_agree table (declared tree) [] c.zero_rows.new.table (declared_named root under_nothing tree c.requires.tree.formed) (zeroed_holds table _ c.zero_rows.ensures.words))
-    c.in-Err.ensures.names
+    (rw same at c.in-Err.ensures.names)
     (zeroed_again declared_width table c.zero_rows.new.table c.collect_decls.new.table c.zero_rows-in-Err.new.table c.zero_rows.ensures.words c.in-Err.ensures.behind c.zero_rows-in-Err.ensures.words)

@@ -1,10 +1,10 @@
 use Rattle.std.proofs.Common.{rules}
 use Rattle.analyzer.specs.Walk.{sort_of}
-use Rattle.analyzer.proofs.counting.Sort.of.Goals as goal
+use Rattle.analyzer.proofs.visit.SortFromKind.from.Goals as goal
 
-pub returns-then-is-2 : goal.returns-then-is-2
+pub returns-then-matches : goal.returns-then-matches
 unfolding sort_of
-returns-then-is-2 c = search rules
+returns-then-matches c = search rules
 
 pub returns-then-is_class_member : goal.returns-then-is_class_member
 unfolding sort_of
@@ -14,10 +14,10 @@ pub returns-then-is_expression : goal.returns-then-is_expression
 unfolding sort_of
 returns-then-is_expression c = search rules
 
-pub returns-then-is-4 : goal.returns-then-is-4
+pub returns-then-eq-2 : goal.returns-then-eq-2
 unfolding sort_of
-returns-then-is-4 c = search rules
+returns-then-eq-2 c = search rules
 
-pub returns-else-is-4 : goal.returns-else-is-4
+pub returns-else-eq-2 : goal.returns-else-eq-2
 unfolding sort_of
-returns-else-is-4 c = search rules
+returns-else-eq-2 c = search rules
