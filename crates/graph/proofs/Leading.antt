@@ -1,5 +1,5 @@
 -- Edges that lead on: from one end to the next, and down a segment of the stack.
-use Rattle.std.proofs.Common.{◌≡◌, ℕ, zero, suc, ◌+◌, ◌-◌, ◌<◌, ◌≤◌, ◌⊎◌, List, length, get_or, refl, subst, inl, inr, ⊎_elim, arith}
+use Rattle.std.proofs.Common.{◌≡◌, ℕ, zero, suc, ◌+◌, ◌-◌, ◌<◌, ◌≤◌, ◌⊎◌, List, length, get_or, refl, subst, inl, inr, ⊎_elim, below_more, arith}
 use Rattle.std.proofs.lemmas.Bool.{cases_eq, cases_lt}
 use Rattle.graph.specs.Graphs.{source, target, Leads}
 use Rattle.graph.specs.Graphs.Leads.{here, onward}
@@ -12,12 +12,13 @@ leads_then r (onward q e) = onward (leads_then r q) e
 pub leads_edge : (es : List (ℕ × ℕ)) (k : ℕ) → k < length es → Leads es (source es k) (target es k)
 leads_edge es k h = onward here (record { at = k; within = h; leaves = refl; enters = refl })
 
+-- borders are no more than nodes on the stack
+pub depth_low : {bs : List ℕ} {top depth : ℕ} → Bordered bs top depth → depth ≤ top
+depth_low {bs} {top} {depth} b = grind (arith, b.deep (depth - 1), b.within (depth - 1))
+
 -- the borders do not pass the topmost one
 pub border_top : {bs : List ℕ} {top depth : ℕ} → Bordered bs top depth → (t : ℕ) → t < depth → get_or bs t 0 ≤ get_or bs (depth - 1) 0
-border_top {bs} {top} {depth} b t h = ⊎_elim
-    (λ (e : t ≡ depth - 1). subst (λ x. get_or bs t 0 ≤ get_or bs x 0) e (omega arith))
-    (λ (ne : t ≡ depth - 1 → ⊥). let lt = b.ascending t (depth - 1) (omega arith) (omega arith) in omega arith)
-    (cases_eq t (depth - 1))
+border_top {bs} {top} {depth} b t h = grind (arith, b.ascending t (depth - 1))
 
 -- above the topmost border each node leads down
 descend : {es : List (ℕ × ℕ)} {stack bs : List ℕ} {top depth : ℕ} → Chained es stack bs top depth → Bordered bs top depth
@@ -43,9 +44,6 @@ find xs x (suc n) = ⊎_elim
     (λ (e : get_or xs n 0 ≡ x). inl (n, omega arith, e))
     (λ (ne : get_or xs n 0 ≡ x → ⊥). ⊎_elim
     (λ (f : (t : ℕ) × (t < n) × (get_or xs t 0 ≡ x)). inl (f.0, omega (arith, f.1), f.2))
-    (λ (off : (t : ℕ) → t < n → get_or xs t 0 ≡ x → ⊥). inr (λ t h e. ⊎_elim
-    (λ (s : t ≡ n). ne (subst (λ y. get_or xs y 0 ≡ x) s e))
-    (λ (o : t ≡ n → ⊥). off t (omega arith) e)
-    (cases_eq t n)))
+    (λ (off : (t : ℕ) → t < n → get_or xs t 0 ≡ x → ⊥). inr (λ t h. below_more (λ t. get_or xs t 0 ≡ x → ⊥) n off ne t (omega arith)))
     (find xs x n))
     (cases_eq (get_or xs n 0) x)

@@ -2,7 +2,6 @@ mod Leading
 mod Entering
 mod Following
 mod Closing
-mod Linking
 mod Reading
 mod Finishing
 mod Stepping

@@ -1,12 +1,18 @@
--- How many edges rows of four give, and which.
-use Rattle.std.proofs.Common.{◌≡◌, ℕ, ◌/◌, ◌<◌, List, length, get_or, arith}
-use Rattle.std.proofs.lemmas.List.FromFn.{length-map-range_with_len, get_or-map-range_with_len}
-use Rattle.graph.specs.Rows.{row_edge, row_edges}
+-- The rows of four words that a slice of words is cut into, and the edges that they give.
+use Rattle.std.proofs.Common.{◌≡◌, ℕ, zero, suc, ◌+◌, ◌*◌, ◌/◌, List, length, map, drop, ◌∷◌, refl, ap, add-zero, arith}
+use Rattle.std.proofs.lemmas.List.{get_or-take, get_or-drop, drop-drop}
+use Rattle.std.specs.List.{range_with_len}
+use Rattle.std.specs.Simd.{first_chunks}
+use Rattle.graph.specs.Rows.{row_edge, row_edges, ends}
 
-pub rows_count : (words : List ℕ) → length (row_edges words) ≡ length words / 4
-unfolding row_edges
-rows_count words = length-map-range_with_len (row_edge words) 0 (length words / 4)
+-- the rows from row `a` on
+rows_from : (words : List ℕ) (a n : ℕ) → map ends (first_chunks 4 n (drop (4 * a) words)) ≡ map (row_edge words) (range_with_len a n)
+rows_from words a zero = refl
+rows_from words a (suc n) =
+    let next : 4 * a + 4 ≡ 4 * (a + 1) = omega arith in
+    rw (get_or-take 4 (drop (4 * a) words) 0 0 (omega arith), get_or-take 4 (drop (4 * a) words) 1 0 (omega arith), get_or-drop, get_or-drop, drop-drop, add-zero, next)
+    (ap (λ rest. row_edge words a ∷ rest) (rows_from words (a + 1) n))
 
-pub rows_edge : (words : List ℕ) (k : ℕ) → k < length (row_edges words) → get_or (row_edges words) k (0, 0) ≡ row_edge words k
+pub rows_are : (words : List ℕ) → map ends (first_chunks 4 (length words / 4) words) ≡ row_edges words
 unfolding row_edges
-rows_edge words k h = get_or-map-range_with_len (row_edge words) 0 (length words / 4) k k (0, 0) (omega (arith, length-map-range_with_len (row_edge words) 0 (length words / 4))) (omega arith)
+rows_are words = rows_from words 0 (length words / 4)

@@ -1,95 +1,105 @@
--- The steps of a search as the code takes them: the node whose turn it is, its next edge, and where that leads.
-use Rattle.std.proofs.Common.{◌≡◌, ℕ, ◌+◌, ◌-◌, ◌*◌, ◌<◌, ◌≤◌, List, length, get_or, set, sum, sym, ap, subst, ⊎_elim, mul-le-mul_right, add-mul, arith}
+-- The steps of a walk as the code takes them: the node whose turn it is, its next edge, and where that leads.
+use Rattle.std.proofs.Common.{◌≡◌, ℕ, ◌+◌, ◌-◌, ◌*◌, ◌<◌, ◌≤◌, length, get_or, set, sum, sym, refl, ap, subst, mul-le-mul_right, add-mul, arith}
 use Rattle.std.proofs.lemmas.List.{get_or-set_same}
 use Rattle.std.proofs.lemmas.List.Sums.{sum_by-set}
-use Rattle.std.proofs.lemmas.Bool.{cases_eq}
-use Rattle.graph.specs.Graphs.{source, target}
-use Rattle.graph.specs.Searching.{Star, Search, Seen, left}
-use Rattle.graph.proofs.Leading.{border_top}
-use Rattle.graph.proofs.Entering.{unseen_room, entered, enters_seen}
+use Rattle.graph.specs.Graphs.{source, target, Leads}
+use Rattle.graph.specs.Searching.{Search, Walking, with_node, left, Stepped}
+use Rattle.graph.proofs.Leading.{border_top, depth_low}
+use Rattle.graph.proofs.Entering.{node_room, entered, set_seen}
 use Rattle.graph.proofs.Following.{followed, merged, reached}
 
--- borders are no more than nodes on the stack
-pub depth_low : {es : List (ℕ × ℕ)} {n : ℕ} {turns stack back bs places : List ℕ} {top at depth count : ℕ} → Search es n turns stack back bs places top at depth count → depth ≤ top
-depth_low {depth = depth} s = ⊎_elim (λ (e : depth ≡ 0). omega arith)
-    (λ (ne : depth ≡ 0 → ⊥). let a = s.bordered.deep (depth - 1) (omega arith) in let b = s.bordered.within (depth - 1) (omega arith) in omega arith)
-    (cases_eq depth 0)
+-- borders are no more than there is room for
+pub depth_room : {w : Walking} → Search w → w.depth ≤ length w.borders
+depth_room s = omega (arith, depth_low s.bordered, s.stacked.room, s.sized.borders_long)
+
+-- the node whose turn it is, and its next edge
+abbrev pub node_of : Walking → ℕ
+node_of w = get_or w.stack (w.at - 1) 0
+
+abbrev pub edge_of : Walking → ℕ
+edge_of w = get_or w.turns (node_of w) 0 - 1
+
+-- v, when that edge of w is followed
+abbrev pub after_edge : (w v : Walking) → Walking
+after_edge w v = record v { turns = set v.turns (node_of w) (get_or w.links (edge_of w) 0) }
+
+-- a step of w leads to a walk again
+pub record Steps (w v : Walking) : Type 0 where
+  pub kept : Search v
+  pub stepped : Stepped w v
 
 -- when an edge is followed, less is left to do
-left_falls : (n : ℕ) (turns : List ℕ) (v x at depth at' depth' : ℕ) → v < length turns → x < get_or turns v 0 → at' ≤ n → depth' ≤ n
-    → left n (set turns v x) at' depth' < left n turns at depth
-left_falls n turns v x at depth at' depth' v-in low a d =
-    let fewer : sum (set turns v x) + 1 ≤ sum turns = omega (arith, sum_by-set (λ y. y) turns v x 0 v-in) in
-    let times = mul-le-mul_right (2 * n + 1) fewer in
-    omega (arith, add-mul (sum (set turns v x)) 1 (2 * n + 1))
+left_falls : (w : Walking) (v x at depth : ℕ) → v < length w.turns → x < get_or w.turns v 0 → at ≤ w.nodes → depth ≤ w.nodes
+    → sum (set w.turns v x) * (2 * w.nodes + 1) + at + depth < left w
+left_falls w v x at depth v-in low a d =
+    let fewer : sum (set w.turns v x) + 1 ≤ sum w.turns = omega (arith, sum_by-set (λ y. y) w.turns v x 0 v-in) in
+    let times = mul-le-mul_right (2 * w.nodes + 1) fewer in
+    omega (arith, add-mul (sum (set w.turns v x)) 1 (2 * w.nodes + 1))
 
-module _ {es : List (ℕ × ℕ)} {n : ℕ} {links turns stack back bs places : List ℕ} {top at depth count : ℕ} (star : Star es n links)
-    (s : Search es n turns stack back bs places top at depth count) (some : 0 < depth) (under : get_or bs (depth - 1) 0 < at)
-    (more : 0 < get_or turns (get_or stack (at - 1) 0) 0) (w : ℕ) (w_is : w ≡ target es (get_or turns (get_or stack (at - 1) 0) 0 - 1)) where
+module _ {w : Walking} (s : Search w) (some : 0 < w.depth) (under : get_or w.borders (w.depth - 1) 0 < w.at)
+    (more : 0 < get_or w.turns (node_of w) 0) (t : ℕ) (t_is : t ≡ target w.edges (edge_of w)) where
   abbrev node : ℕ
-  node = get_or stack (at - 1) 0
+  node = node_of w
 
   abbrev edge : ℕ
-  edge = get_or turns node 0 - 1
+  edge = edge_of w
 
-  at_in : at - 1 < top
+  at_in : w.at - 1 < w.top
   at_in = omega (arith, s.walked.within)
 
-  node_in : node < n
-  node_in = s.stacked.node (at - 1) at_in
+  node_in : node < w.nodes
+  node_in = s.stacked.node (w.at - 1) at_in
 
-  turn_is : get_or turns node 0 ≡ edge + 1
+  turn_is : get_or w.turns node 0 ≡ edge + 1
   turn_is = omega arith
 
-  edge_in : edge < length es
+  edge_in : edge < length w.edges
   edge_in = omega (arith, s.followed.within node node_in)
 
-  leaves : source es edge ≡ node
+  leaves : source w.edges edge ≡ node
   leaves = s.followed.leaves node edge node_in turn_is
 
-  target_in : target es edge < n
-  target_in = star.inside.targets edge edge_in
+  node_seen : 0 < get_or w.places node 0
+  node_seen = omega (arith, s.stacked.place (w.at - 1) at_in)
 
-  node_seen : 0 < get_or places node 0
-  node_seen = omega (arith, s.stacked.place (at - 1) at_in)
+  pub target_in : t < w.nodes
+  target_in = subst (λ x. x < w.nodes) (sym t_is) (s.star.inside.targets edge edge_in)
 
-  falls : (at' depth' : ℕ) → at' ≤ n → depth' ≤ n → left n (set turns node (get_or links edge 0)) at' depth' < left n turns at depth
-  falls at' depth' = left_falls n turns node (get_or links edge 0) at depth at' depth' (omega (arith, node_in, s.sized.turns_long)) (omega (arith, (star.linked edge edge_in).before))
+  -- each node on the stack leads to the target
+  pub target_reached : (p : ℕ) → p < w.top → Leads w.edges (get_or w.stack p 0) t
+  target_reached p h = subst (λ x. Leads w.edges (get_or w.stack p 0) x) (sym t_is) (reached s edge edge_in under leaves p h)
+
+  falls : (at depth : ℕ) → at ≤ w.nodes → depth ≤ w.nodes → sum (set w.turns node (get_or w.links edge 0)) * (2 * w.nodes + 1) + at + depth < left w
+  falls at depth = left_falls w node (get_or w.links edge 0) at depth (omega (arith, node_in, s.sized.turns_long)) (omega (arith, (s.star.linked edge edge_in).before))
 
   -- the edge leads to an unseen node
-  module _ (new : get_or places w 0 ≡ 0) where
-    unseen_w : get_or places (target es edge) 0 ≡ 0
-    unseen_w = subst (λ x. get_or places x 0 ≡ 0) w_is new
-
-    pub room : top < n
-    room = omega (arith, unseen_room s.stacked s.sized.places_long (target es edge) target_in unseen_w, s.stacked.room)
-
-    pub known : w < n
-    known = subst (λ x. x < n) (sym w_is) target_in
-
-    pub step_enters : Search es n (set turns node (get_or links edge 0)) (set stack top w) (set back top at) (set bs depth top) (set places w (top + 1)) (top + 1) (top + 1) (depth + 1) count
-    step_enters = subst (λ x. Search es n (set turns node (get_or links edge 0)) (set stack top x) (set back top at) (set bs depth top) (set places x (top + 1)) (top + 1) (top + 1) (depth + 1) count) (sym w_is)
-        (let e = entered s (target es edge) target_in unseen_w star.inside (reached s edge edge_in under leaves) in
-        followed star e node edge node_in (enters_seen s (target es edge) target_in unseen_w node node_in node_seen) turn_is
-        (λ t h low. omega (arith, e.bordered.within t h, get_or-set_same places (target es edge) (top + 1) 0 (omega (arith, target_in, s.sized.places_long)))))
-
-    pub enters_falls : left n (set turns node (get_or links edge 0)) (top + 1) (depth + 1) < left n turns at depth
-    enters_falls = falls (top + 1) (depth + 1) (omega (arith, room)) (omega (arith, room, depth_low s))
-
-    pub step_seen : Seen n places (set places w (top + 1))
-    step_seen = subst (λ x. Seen n places (set places x (top + 1))) (sym w_is) (enters_seen s (target es edge) target_in unseen_w)
+  pub steps_in : get_or w.places t 0 ≡ 0 → Steps w (after_edge w (with_node w t))
+  steps_in new =
+      let room = node_room s t target_in new in
+      let e = entered s t target_in new target_reached in
+      record {
+        kept = followed e node edge node_in (set_seen w.places t node (w.top + 1) new node_seen) turn_is
+            (λ k h low. omega (arith, e.bordered.within k h, ap (λ x. get_or (set w.places t (w.top + 1)) x 0) t_is, get_or-set_same w.places t (w.top + 1) 0 (omega (arith, target_in, s.sized.places_long))));
+        stepped = record {
+          onward = record { edges = refl; nodes = refl; seen = λ v h. set_seen w.places t v (w.top + 1) new };
+          falls = falls (w.top + 1) (w.depth + 1) (omega (arith, room)) (omega (arith, room, depth_low s.bordered));
+        };
+      }
 
   -- it leads to a node that was seen: `rest` borders are left below it
-  module _ (seen : 0 < get_or places w 0) (rest : ℕ) (fewer : rest ≤ depth) (kept : 0 < rest → get_or bs (rest - 1) 0 < get_or places w 0)
-      (dropped : (t : ℕ) → rest ≤ t → t < depth → get_or places w 0 ≤ get_or bs t 0) where
-    place_is : get_or places w 0 ≡ get_or places (target es edge) 0
-    place_is = ap (λ x. get_or places x 0) w_is
+  module _ (old : get_or w.places t 0 ≡ 0 → ⊥) (rest : ℕ) (fewer : rest ≤ w.depth) (kept : 0 < rest → get_or w.borders (rest - 1) 0 < get_or w.places t 0)
+      (dropped : (k : ℕ) → rest ≤ k → k < w.depth → get_or w.places t 0 ≤ get_or w.borders k 0) where
+    place : get_or w.places t 0 ≡ get_or w.places (target w.edges edge) 0
+    place = ap (λ x. get_or w.places x 0) t_is
 
-    pub step_merges : Search es n (set turns node (get_or links edge 0)) stack back bs places top at rest count
-    step_merges =
-        let m = merged star.inside s edge rest edge_in some under leaves (omega (arith, place_is)) fewer (λ t low high. omega (arith, place_is, dropped t low high)) in
-        followed star m node edge node_in node_seen turn_is
-        (λ t h low. omega (arith, border_top m.bordered t h, kept (omega arith), place_is))
+    pub target_merged : Search (record w { depth = rest })
+    target_merged = merged s edge rest edge_in some under leaves (omega (arith, place)) fewer (λ k low high. omega (arith, place, dropped k low high))
 
-    pub merges_falls : left n (set turns node (get_or links edge 0)) at rest < left n turns at depth
-    merges_falls = falls at rest (omega (arith, s.walked.within, s.stacked.room)) (omega (arith, depth_low s, s.stacked.room))
+    pub steps_on : Steps w (after_edge w (record w { depth = rest }))
+    steps_on = record {
+      kept = followed target_merged node edge node_in node_seen turn_is (λ k h low. omega (arith, border_top target_merged.bordered k h, kept (omega arith), place));
+      stepped = record {
+        onward = record { edges = refl; nodes = refl; seen = λ v h some. some };
+        falls = falls w.at rest (omega (arith, s.walked.within, s.stacked.room)) (omega (arith, depth_low s.bordered, s.stacked.room));
+      };
+    }

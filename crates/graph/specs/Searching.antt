@@ -12,12 +12,16 @@
 --   Bordered           the borders rise from 0
 --   Followed           no edge that was followed leads from a segment to one below it
 --   Settled            the components known so far are right, and no edge leads out of them
+--   Walking            what a contract sees of a walk
 --   Search             all of these
+--   with_node          a node is put on the stack
 --   left               a number that falls at each step
---   Seen               what is seen stays seen
+--   Onward, Stepped    a walk goes on, and what is seen stays seen; by a step
 --   Stamped            the nodes of the segments from a border on get a label
-use Rattle.std.specs.Prelude.{◌≡◌, ℕ, ◌+◌, ◌-◌, ◌*◌, ◌^◌, ◌<◌, ◌≤◌, ◌⊎◌, List, length, sum, count_by, ◌≢◌, nat_eq, slice_index}
-use Rattle.graph.specs.Graphs.{source, target, Leads, Inside}
+use Rattle.std.specs.Prelude.{◌≡◌, ℕ, ◌+◌, ◌-◌, ◌*◌, ◌^◌, ◌<◌, ◌≤◌, ◌⊎◌, List, length, sum, count_by, ◌≢◌, nat_eq, slice_index, slice_set}
+use Rattle.graph.specs.Graphs as graph
+use Rattle.graph.specs.Graphs.{source, target, Leads}
+use Rattle.graph.specs.declared.walk.Walk.TheInside.{Inside}
 
 -- `link` is one more than the last edge below `bound` that leaves the node, or 0 where there is none
 pub record Latest (edges : List (ℕ × ℕ)) (node bound link : ℕ) : Type 0 where
@@ -27,7 +31,7 @@ pub record Latest (edges : List (ℕ × ℕ)) (node bound link : ℕ) : Type 0 w
 
 -- the edges join nodes below n, and each has the link of the one before it that leaves the same node
 pub record Star (edges : List (ℕ × ℕ)) (n : ℕ) (links : List ℕ) : Type 0 where
-  pub inside : Inside edges n
+  pub inside : graph.Inside edges n
   pub linked : (k : ℕ) → k < length edges → Latest edges (source edges k) k (slice_index links k)
 
 -- the first edges, below `bound`, have their links, and each node the link of its last one
@@ -92,23 +96,76 @@ pub record Settled (edges : List (ℕ × ℕ)) (n : ℕ) (places : List ℕ) (co
   pub joined : (a b : ℕ) → a < n → b < n → n < slice_index places a → slice_index places a ≡ slice_index places b → Leads edges a b
   pub used : (c : ℕ) → c < count → (v : ℕ) × (v < n) × (slice_index places v ≡ n + 1 + c)
 
+-- what a contract sees of a walk: the edges and their links, how many nodes there are, the words of each node, and where the walk stands
+pub record Walking : Type 0 where
+  pub edges : List (ℕ × ℕ)
+  pub links : List ℕ
+  pub nodes : ℕ
+  pub turns : List ℕ
+  pub stack : List ℕ
+  pub back : List ℕ
+  pub borders : List ℕ
+  pub places : List ℕ
+  pub top : ℕ
+  pub at : ℕ
+  pub depth : ℕ
+  pub count : ℕ
+
+-- the same, of the fields
+abbrev pub walking : {E : Type 0} → List (ℕ × ℕ) → Inside E → Walking
+walking edges a = record {
+  edges = edges;
+  links = a.links.now;
+  nodes = length a.places.now;
+  turns = a.turns.now;
+  stack = a.stack.now;
+  back = a.back.now;
+  borders = a.borders.now;
+  places = a.places.now;
+  top = a.top;
+  at = a.at;
+  depth = a.depth;
+  count = a.count;
+}
+
 -- all that a walk keeps
-pub record Search (edges : List (ℕ × ℕ)) (n : ℕ) (turns stack back borders places : List ℕ) (top at depth count : ℕ) : Type 0 where
-  pub sized : Sized n turns stack back borders places
-  pub stacked : Stacked n stack places top count
-  pub walked : Walked turns stack back top at
-  pub chained : Chained edges stack borders top depth
-  pub bordered : Bordered borders top depth
-  pub followed : Followed edges n turns borders places depth
-  pub settled : Settled edges n places count
+pub record Search (w : Walking) : Type 0 where
+  pub star : Star w.edges w.nodes w.links
+  pub links_long : length w.edges ≤ length w.links
+  pub sized : Sized w.nodes w.turns w.stack w.back w.borders w.places
+  pub stacked : Stacked w.nodes w.stack w.places w.top w.count
+  pub walked : Walked w.turns w.stack w.back w.top w.at
+  pub chained : Chained w.edges w.stack w.borders w.top w.depth
+  pub bordered : Bordered w.borders w.top w.depth
+  pub followed : Followed w.edges w.nodes w.turns w.borders w.places w.depth
+  pub settled : Settled w.edges w.nodes w.places w.count
+
+-- a node is put on the stack, with a border under it, and gets the turn
+abbrev pub with_node : Walking → ℕ → Walking
+with_node w node = record w {
+  stack = slice_set w.stack w.top node;
+  back = slice_set w.back w.top w.at;
+  borders = slice_set w.borders w.depth w.top;
+  places = slice_set w.places node (w.top + 1);
+  top = w.top + 1;
+  at = w.top + 1;
+  depth = w.depth + 1;
+}
 
 -- what is left to do: it falls at each step
-abbrev pub left : ℕ → List ℕ → (at depth : ℕ) → ℕ
-left n turns at depth = sum turns * (2 * n + 1) + at + depth
+abbrev pub left : Walking → ℕ
+left w = sum w.turns * (2 * w.nodes + 1) + w.at + w.depth
 
--- what is seen stays seen
-abbrev pub Seen : ℕ → (before after : List ℕ) → Type 0
-Seen n before after = (v : ℕ) → v < n → 0 < slice_index before v → 0 < slice_index after v
+-- a walk goes on: over the same edges and nodes, and what is seen stays seen
+pub record Onward (before after : Walking) : Type 0 where
+  pub edges : after.edges ≡ before.edges
+  pub nodes : after.nodes ≡ before.nodes
+  pub seen : (v : ℕ) → v < before.nodes → 0 < slice_index before.places v → 0 < slice_index after.places v
+
+-- a walk goes on by a step
+pub record Stepped (before after : Walking) : Type 0 where
+  pub onward : Onward before after
+  pub falls : left after < left before
 
 -- the nodes on the stack from the border on have the label, the others their places
 pub record Stamped (n : ℕ) (before after : List ℕ) (border top label : ℕ) : Type 0 where

@@ -1,6 +1,8 @@
 ghost use Rattle.std.specs.Prelude.{◌≡◌, ℕ, ◌<◌, List, length, slice_index_or};
 ghost use Rattle.graph.specs.Rows.{row_edges};
 
+use std::marker::Model;
+
 /// The edges of a graph in their order, whatever layout they lie in.
 pub trait Edges {
     ghost list: { Self → List (ℕ × ℕ) };
@@ -22,6 +24,7 @@ pub struct Pairs<'e> {
 }
 
 impl<'e> Pairs<'e> {
+    // No `From`: it would not take an array or a vector as it is.
     /// The pairs as the edges of a graph.
     pub fn of(edges: &'e [(u32, u32)]) -> Pairs<'e>
         ensures { result.edges.now ≡ edges.now }
@@ -42,32 +45,41 @@ impl<'e> Edges for Pairs<'e> {
     }
 }
 
-/// Words in a row.
-const WIDTH: usize = 4;
-
 /// Edges that lie in words as rows of four: the node that it leaves, the node that it enters, and two more words.
 #[derive(Drop)]
 pub struct Rows<'w> {
-    words: &'w [u32],
+    rows: &'w [[u32; 4]],
+}
+
+impl<'w> Model for Rows<'w> {
+    ghost use Rattle.std.specs.Prelude.{ℕ, List, map};
+    ghost use Rattle.graph.specs.Rows.{ends};
+
+    ghost Value = { List (ℕ × ℕ) };
+
+    ghost view = { λ s. map ends s.rows.now };
 }
 
 impl<'w> Rows<'w> {
-    /// The rows as the edges of a graph.
+    /// The rows as the edges of a graph. Words past the last whole row are none.
     pub fn of(words: &'w [u32]) -> Rows<'w>
-        ensures { result.words.now ≡ words.now }
+        ensures { result ≡ row_edges words.now }
     {
-        Rows { words }
+        let (rows, _) = words.as_chunks();
+        Rows { rows }
     }
 }
 
 impl<'w> Edges for Rows<'w> {
-    ghost list = { λ s. row_edges s.words.now };
+    ghost list = { λ s. s };
 
     fn len(&self) -> usize {
-        self.words.len() / WIDTH
+        self.rows.len()
     }
 
     fn edge(&self, k: usize) -> (u32, u32) {
-        (self.words[WIDTH * k], self.words[WIDTH * k + 1])
+        let rows = self.rows;
+        let [source, target, ..] = rows[k];
+        (source, target)
     }
 }

@@ -1,43 +1,54 @@
-ghost use Rattle.std.specs.Prelude.{◌≡◌, ℕ, ◌+◌, ◌^◌, ◌<◌, ◌≤◌, length, MatchResult, slice_index};
+ghost use Rattle.std.specs.Prelude.{◌≡◌, ℕ, ◌+◌, ◌*◌, ◌^◌, ◌<◌, ◌≤◌, length, MatchResult, slice_index};
 ghost use Rattle.graph.specs.Graphs.{Components};
-ghost use Rattle.graph.specs.Refusals.{Stray};
+ghost use Rattle.graph.specs.Refusals.{Refused};
 
 use crate::edges::Edges;
-use crate::explore::explore;
+use crate::fault::GraphFault;
 use crate::link::link;
+use crate::walk::Walk;
 
-/// Takes the same number from each label.
-fn lower(labels: &mut [u32], by: u32)
-    requires { (v : ℕ) → v < length labels.old → by ≤ slice_index labels.old v }
-    ensures { (v : ℕ) → v < length labels.old → slice_index labels.new v + by ≡ slice_index labels.old v }
+/// Gives each node its label: its place, less the same number for all.
+fn lower(places: &[u32], labels: &mut [u32], by: u32)
+    requires long { length labels.old ≡ length places.now }
+    requires low { (v : ℕ) → v < length places.now → by ≤ slice_index places.now v }
+    ensures { (v : ℕ) → v < length places.now → slice_index labels.new v + by ≡ slice_index places.now v }
 {
-    for label in labels.iter_mut() {
-        *label -= by;
+    // No `zip`: of the labels lent to it, the check knows afterwards only how many there are.
+    for (node, label) in labels.iter_mut().enumerate() {
+        *label = places[node] - by;
     }
 }
 
-/// Labels the nodes by their components, over work memory that is long enough, or answers an edge that names a node past the last one.
-pub fn label<E: Edges>(
-    edges: &E,
-    turns: &mut [u32],
-    stack: &mut [u32],
-    back: &mut [u32],
-    borders: &mut [u32],
-    links: &mut [u32],
-    labels: &mut [u32],
-) -> Result<u32, usize>
+/// Labels the nodes by their components, over work memory that is long enough, or refuses an edge that names a node past the last one.
+pub fn label<E: Edges>(edges: &E, work: &mut [u32], labels: &mut [u32]) -> Result<u32, GraphFault>
     requires few { length labels.old < 2 ^ 31 }
     requires few_edges { length (E.list edges.now) < 2 ^ 32 }
-    requires turns_long { length turns.old ≡ length labels.old }
-    requires stack_long { length stack.old ≡ length labels.old }
-    requires back_long { length back.old ≡ length labels.old }
-    requires borders_long { length borders.old ≡ length labels.old }
-    requires links_long { length (E.list edges.now) ≤ length links.old }
-    ensures { MatchResult result (λ count. Components (E.list edges.now) labels.new count) (λ edge. Stray (E.list edges.now) (length labels.old) edge × (labels.new ≡ labels.old)) }
+    requires room { 4 * length labels.old + length (E.list edges.now) ≤ length work.old }
+    ensures { MatchResult result (λ count. Components (E.list edges.now) labels.new count) (λ fault. Refused (E.list edges.now) (length labels.old) (length work.old) fault × (labels.new ≡ labels.old)) }
 {
-    link(edges, turns, links)?;
-    labels.fill(0);
-    let count = explore(edges, links, turns, stack, back, borders, labels);
-    lower(labels, labels.len() as u32 + 1);
+    let nodes = labels.len();
+    let (turns, rest) = work.split_at_mut(nodes);
+    let (stack, rest) = rest.split_at_mut(nodes);
+    let (borders, rest) = rest.split_at_mut(nodes);
+    let (places, links) = rest.split_at_mut(nodes);
+    link(edges, turns, links).map_err(GraphFault::NoSuchNode)?;
+    places.fill(0);
+    // The labels' words serve the walk too, but hold no places: of words lent to a struct with a model the check knows only the length.
+    let mut walk = Walk {
+        edges,
+        links,
+        turns,
+        stack,
+        back: labels,
+        borders,
+        places,
+        top: 0,
+        at: 0,
+        depth: 0,
+        count: 0,
+    };
+    walk.explore();
+    let Walk { places, count, .. } = walk;
+    lower(places, labels, nodes as u32 + 1);
     Ok(count)
 }

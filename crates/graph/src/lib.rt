@@ -5,17 +5,17 @@ ghost use Rattle.graph.specs.Graphs.{Components};
 ghost use Rattle.graph.specs.Refusals.{Refused};
 
 pub mod edges;
-mod explore;
 pub mod fault;
 mod label;
 mod link;
+mod walk;
 
 pub use edges::{Edges, Pairs, Rows};
 pub use fault::GraphFault;
 use label::label;
 
 /// The first number of nodes that is refused: places and labels stand side by side below 2^32.
-const NODES: usize = 0x8000_0000;
+pub const NODES: usize = 0x8000_0000;
 
 /// The first number of edges that is refused: a link is one more than an edge's number.
 const EDGES: usize = 0x1_0000_0000;
@@ -45,12 +45,5 @@ pub fn components<E: Edges>(
     if work.len() < words(nodes, count) {
         return Err(GraphFault::NoRoom);
     }
-    let (turns, rest) = work.split_at_mut(nodes);
-    let (stack, rest) = rest.split_at_mut(nodes);
-    let (back, rest) = rest.split_at_mut(nodes);
-    let (borders, links) = rest.split_at_mut(nodes);
-    match label(edges, turns, stack, back, borders, links, labels) {
-        Ok(count) => Ok(count),
-        Err(edge) => Err(GraphFault::NoSuchNode(edge)),
-    }
+    label(edges, work, labels)
 }

@@ -13,6 +13,7 @@ pub fn link<E: Edges>(edges: &E, turns: &mut [u32], links: &mut [u32]) -> Result
     ensures { MatchResult result (λ _. Linked (E.list edges.now) (length turns.old) (length (E.list edges.now)) turns.new links.new) (λ k. Stray (E.list edges.now) (length turns.old) k) }
 {
     turns.fill(0);
+    // Counted: the trait gives an edge by its number, and a link is that number.
     for k in 0..edges.len() {
         let (source, target) = edges.edge(k);
         let source = source as usize;

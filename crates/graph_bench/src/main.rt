@@ -1,7 +1,6 @@
 #![tactic(auto)]
 
 use graph::{Edges, Pairs, components, words};
-use std::alloc::{AllocError, Global};
 use std::env;
 use std::time::Instant;
 
@@ -14,33 +13,18 @@ const NODES: u32 = 16_384;
 
 const EDGES: u32 = 98_304;
 
-/// The edges of a graph.
-fn edges(
-    heap: Global,
-    shape: Shape,
-    nodes: u32,
-    count: u32,
-) -> Result<Vec<(u32, u32)>, AllocError> {
-    let mut all = Vec::new(heap);
-    for k in 0..count {
-        all.push(shape.edge(nodes, k))?;
-    }
-    Ok(all)
-}
-
 /// Labels one graph, and prints how many labels there are, and the microseconds if they are asked for.
 fn run(rt: &HostRuntime, shape: Shape, nodes: u32, count: u32, timed: bool) -> anyhow::Result<()> {
     let heap = rt.alloc();
-    let edges = edges(heap, shape, nodes, count)?;
+    let edges: Vec<(u32, u32)> = (0..count).map(|k| shape.edge(nodes, k)).collect(heap)?;
     let mut labels = vec![in heap; 0; nodes as usize]?;
     let mut work = vec![in heap; 0; words(nodes as usize, count as usize)]?;
     let start = Instant::now(rt)?;
     let answer = components(&Pairs::of(&edges), &mut work, &mut labels);
     let time = start.elapsed(rt)?.as_micros();
-    let name = shape.name();
     match answer {
-        Ok(found) => print!(rt; "{name} of {nodes} nodes and {count} edges: {found} labels")?,
-        Err(fault) => print!(rt; "{name} of {nodes} nodes and {count} edges: {fault:?}")?,
+        Ok(found) => print!(rt; "{shape} of {nodes} nodes and {count} edges: {found} labels")?,
+        Err(fault) => print!(rt; "{shape} of {nodes} nodes and {count} edges: {fault:?}")?,
     }
     if timed {
         print!(rt; " in {time} us")?;

@@ -1,3 +1,5 @@
+use std::fmt;
+
 /// The graphs to label, each for any number of nodes and edges.
 #[derive(Clone, Copy)]
 pub enum Shape {
@@ -17,13 +19,10 @@ pub enum Shape {
     Random(u32),
 }
 
-/// To how many nodes each node of a dense graph leads.
-const FAN: u32 = 768;
-
-impl Shape {
-    /// What the graph is called.
-    pub fn name(self) -> &'static str {
-        match self {
+/// What the graph is called.
+impl fmt::Display for Shape {
+    fn fmt<W: fmt::Write>(&self, f: &mut fmt::Formatter<W>) -> fmt::Result {
+        f.write_str(match self {
             Shape::Path => "path",
             Shape::Ring => "ring",
             Shape::Star => "star",
@@ -31,9 +30,14 @@ impl Shape {
             Shape::Ladder => "ladder",
             Shape::Dense => "dense",
             Shape::Random(_) => "random",
-        }
+        })
     }
+}
 
+/// To how many nodes each node of a dense graph leads.
+const FAN: u32 = 768;
+
+impl Shape {
     /// Its edge `k` on so many nodes, which are at least 2.
     pub fn edge(self, nodes: u32, k: u32) -> (u32, u32) {
         let last = nodes.saturating_sub(1).max(1);

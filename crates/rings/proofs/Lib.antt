@@ -1,8 +1,8 @@
 pub mod Taking
 pub mod Naming
 pub mod Ruling
-pub mod Following
-pub mod Joining
-pub mod Stepping
-pub mod Spending
+pub mod Marked
+pub mod Quieting
+pub mod Joined
+pub mod Spent
 pub mod Refusing

@@ -1,6 +1,8 @@
 -- A graph that is refused is that of no count that fits the work memory; and which names keep their counts.
-use Rattle.std.proofs.Common.{◌≡◌, ℕ, ◌+◌, ◌*◌, ◌^◌, ◌<◌, ◌≤◌, false, not, List, length, ap, ◌∙◌, ⊎_elim, arith}
-use Rattle.std.proofs.lemmas.Bool.{cond-false, and_left, and_right, not_from_true}
+use Rattle.std.proofs.Common.{◌≡◌, ℕ, ◌+◌, ◌*◌, ◌^◌, ◌<◌, ◌≤◌, false, not, eqb, List, length, get_or, sym, ap, ◌∙◌, ⊎_elim, arith}
+use Rattle.std.proofs.lemmas.Map.Steps.{le-length_from_below}
+use Rattle.std.proofs.lemmas.List.Folds.{list_any_at}
+use Rattle.std.proofs.lemmas.Bool.{cond-false, eq-eqb, and_left, and_right, not_from_true}
 use Rattle.rules.specs.Tables.{Counts, names_width}
 use Rattle.rules.specs.Rings.{component, has_other, has_entry, led_into, closed, less}
 use Rattle.tables.specs.Living.{used}
@@ -12,10 +14,10 @@ use Rattle.graph.specs.declared.fault.GraphFault.{GraphFault}
 use Rattle.graph.specs.declared.fault.GraphFault.TheVariants.{TooLarge, NoRoom, NoSuchNode}
 use Rattle.rings.specs.Ringed.{Ready}
 use Rattle.rings.specs.Closing.{node, pairs}
-use Rattle.rings.specs.Marking.{joins}
+use Rattle.rings.specs.Joining.{joins}
 use Rattle.rings.specs.Spending.{Discounted, Subtracted, NotEnough, PassedOver}
 use Rattle.rings.proofs.Naming.{node_within, edge_row}
-use Rattle.rings.proofs.Spending.{held_count, joins_held}
+use Rattle.rings.proofs.Joined.{held_count, joins_held}
 
 module _ (names edges : List ℕ) (c : Counts) (found found' : List ℕ) (ready : Ready c found found' names edges) where
   -- as many nodes as rows
@@ -62,6 +64,10 @@ too_large names edges n room count h c found found' ready few few-edges enough =
 pub too_small : (names edges : List ℕ) (n room : ℕ) → n ≡ used names_width names → room < 5 * n → NotEnough names edges room
 too_small names edges n room count h c found found' ready few few-edges enough =
     let x = ready_nodes names edges c found found' ready in omega arith
+
+-- labels that are all used are no more than the nodes
+pub used_few : (labels : List ℕ) (count : ℕ) → ((l : ℕ) → l < count → (a : ℕ) × (a < length labels) × (get_or labels a 0 ≡ l)) → count ≤ length labels
+used_few labels count used = le-length_from_below labels count (λ l h. let u = used l h in list_any_at (eqb l) labels u.0 0 u.1 (eq-eqb l _ (sym u.2)))
 
 -- the labels of the nodes tell the components
 pub discounted_subtracted : (names edges labels : List ℕ) (count : ℕ) (after : List ℕ) → length labels ≡ used names_width names → Components (joins edges) labels count

@@ -48,10 +48,6 @@ taken_push p xs e r =
     less_push (q e) r (total q (λ x. x.usage) xs) (total q (λ x. x.assign) xs) e.usage e.assign _ _
     (total_push q (λ x. x.usage) xs e) (total_push q (λ x. x.assign) xs e)
 
-map_alike : (f g : NameRow → NameRow) → ((r : NameRow) → f r ≡ g r) → (rs : List NameRow) → map f rs ≡ map g rs
-map_alike f g h [] = refl
-map_alike f g h (r ∷ rs) = ap (λ x. x ∷ map f rs) (h r) ∙ ap (λ x. g r ∷ x) (map_alike f g h rs)
-
 -- the row of a name among rows that are seen through f
 abbrev there_or : Name → (f to : NameRow → NameRow) → NameRow → NameRow
 there_or n f to r = if same n r.name then to (f r) else f r
@@ -89,11 +85,11 @@ lessened_more p xs e rs d =
     let known = λ (b : Bool) (h : p e ≡ b) (r : NameRow). taken_push p xs e r ∙ ap (λ (x : Bool). if x && same e.to r.name then to (taken p xs r) else taken p xs r) h in
     ⊎_elim
     (λ (h : p e ≡ true).
-    map_alike (taken p (xs ++ (e ∷ []))) (there_or e.to (taken p xs) to) (known true h) rs
+    (λ i. map (λ r. known true h r i) rs)
     ∙ sym (change_map e.to (taken p xs) to rs (λ r. refl) d)
     ∙ sym (cond-true (p e) (change (row_of e.to) to (lessened p xs rs)) (lessened p xs rs) h))
     (λ (h : p e ≡ false).
-    map_alike (taken p (xs ++ (e ∷ []))) (taken p xs) (known false h) rs
+    (λ i. map (λ r. known false h r i) rs)
     ∙ sym (cond-false (p e) (change (row_of e.to) to (lessened p xs rs)) (lessened p xs rs) h))
     (cases_Bool (p e))
 
@@ -107,11 +103,6 @@ lessened_none p (r ∷ rs) s =
     ap (λ x. x ∷ map (taken p []) rs) one ∙ ap (λ x. r ∷ x) (lessened_none p rs s.2)
 
 -- ALL EDGES
-
-total_alike : (p q : EdgeRow → Bool) (w : EdgeRow → ℕ) → ((e : EdgeRow) → p e ≡ q e) → (es : List EdgeRow) → total p w es ≡ total q w es
-total_alike p q w h [] = refl
-total_alike p q w h (e ∷ es) =
-    ap (λ (b : Bool). (if b then w e else 0) + total p w es) (h e) ∙ ap (λ n. (if q e then w e else 0) + n) (total_alike p q w h es)
 
 total_nothing : (w : EdgeRow → ℕ) (es : List EdgeRow) → total (λ e. false) w es ≡ 0
 total_nothing w [] = refl
@@ -130,6 +121,10 @@ module _ (c : Counts) (r : NameRow) where
 
   abbrev at : Name → EdgeRow → Bool
   at m e = not (same e.from m) && (among e.from (component c.edges m) && closed c m)
+
+  -- a row less the weights of some edges
+  abbrev taken_by : (EdgeRow → Bool) → NameRow → NameRow
+  taken_by q s = row_less s (total q (λ e. e.usage) c.edges) (total q (λ e. e.assign) c.edges)
 
   -- in a closed ring the edges that pass are those from the other names of the ring
   ring_edge : closed c r.name ≡ true → (e : EdgeRow) → to_row e ≡ from_ring (component c.edges r.name) r.name e
@@ -161,14 +156,13 @@ module _ (c : Counts) (r : NameRow) where
       let ring = component c.edges r.name in
       ⊎_elim
       (λ (g : closed c r.name ≡ true).
-      let u = ap (minus r.usage) (total_alike to_row (from_ring ring r.name) (λ e. e.usage) (ring_edge g) c.edges) in
-      let a = ap (minus r.assign) (total_alike to_row (from_ring ring r.name) (λ e. e.assign) (ring_edge g) c.edges) in
-      let one : taken (passes c) c.edges r ≡ less ring c.edges r = λ i. record { name = r.name; usage = u i; assign = a i; entry = r.entry; counted = r.counted } in
+      let one : taken (passes c) c.edges r ≡ less ring c.edges r = ap (λ q. taken_by q r) (λ i e. ring_edge g e i) in
       one ∙ sym (cond-true (closed c r.name) (less ring c.edges r) r g))
       (λ (g : closed c r.name ≡ false).
-      let u = ap (minus r.usage) (total_alike to_row (λ e. false) (λ e. e.usage) (no_edge g) c.edges ∙ total_nothing (λ e. e.usage) c.edges) ∙ minus_none r.usage hu in
-      let a = ap (minus r.assign) (total_alike to_row (λ e. false) (λ e. e.assign) (no_edge g) c.edges ∙ total_nothing (λ e. e.assign) c.edges) ∙ minus_none r.assign ha in
-      let one : taken (passes c) c.edges r ≡ r = λ i. record { name = r.name; usage = u i; assign = a i; entry = r.entry; counted = r.counted } in
+      let u = ap (minus r.usage) (total_nothing (λ e. e.usage) c.edges) ∙ minus_none r.usage hu in
+      let a = ap (minus r.assign) (total_nothing (λ e. e.assign) c.edges) ∙ minus_none r.assign ha in
+      let one : taken (passes c) c.edges r ≡ r =
+      ap (λ q. taken_by q r) (λ i e. no_edge g e i) ∙ (λ i. record { name = r.name; usage = u i; assign = a i; entry = r.entry; counted = r.counted }) in
       one ∙ sym (cond-false (closed c r.name) (less ring c.edges r) r g))
       (cases_Bool (closed c r.name))
 

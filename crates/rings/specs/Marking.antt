@@ -1,25 +1,15 @@
 -- What the steps of `subtract_cycles` leave in the work memory. Their contracts cite it.
 --
---   end_at, joins          the nodes in a row of edges; all rows of edges as edges between nodes
 --   Latest, Members        the nodes of each label in a chain of links, the last one first
 --   FedOutside, Outside    an edge enters a node from another label; the nodes for which that is so are marked
 --   entered_at             a node is an entry
 --   Quiet                  two nodes have a label, and none that has it is an entry or marked
 --   Verdict, Ruled         what a mark says of a label; of each label
-use Rattle.std.specs.Prelude.{◌≡◌, ℕ, ◌+◌, ◌-◌, ◌<◌, ◌≤◌, Bool, false, not, ◌&&◌, ◌⊎◌, List, map, length, MatchBool, ◌==◌, ◌≢◌, slice_index, slice_index_or}
-use Rattle.std.specs.List.{range_with_len}
-use Rattle.rules.specs.Tables.{names_width, edges_width}
-use Rattle.tables.specs.Living.{used, there}
+use Rattle.std.specs.Prelude.{◌≡◌, ℕ, ◌+◌, ◌<◌, ◌≤◌, Bool, false, not, ◌&&◌, ◌⊎◌, List, length, MatchBool, ◌==◌, ◌≢◌, slice_index, slice_index_or}
+use Rattle.rules.specs.Tables.{names_width}
+use Rattle.tables.specs.Living.{there}
 use Rattle.tables.specs.Counts.{row_word, entry_word}
 use Rattle.graph.specs.Graphs.{source, target}
-
--- the node in word i of row k of edges, from 0
-abbrev pub end_at : (words : List ℕ) → (i k : ℕ) → ℕ
-end_at words i k = row_word edges_width (k + 1) i words - 1
-
--- the rows of edges as edges between nodes
-unfoldable pub joins : List ℕ → List (ℕ × ℕ)
-joins words = map (λ k. (end_at words 0 k, end_at words 1 k)) (range_with_len 0 (used edges_width words))
 
 -- `link` is one more than the last node below `bound` that has the label, or 0 where there is none
 pub record Latest (labels : List ℕ) (label bound link : ℕ) : Type 0 where

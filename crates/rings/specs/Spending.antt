@@ -1,35 +1,34 @@
 -- What the edges within closed rings take from the words of names. The contract of the subtraction cites it.
 --
---   within_ring        an edge joins two nodes of one closed ring
---   spent              the words of names after the first edges
+--   in_one_ring        two nodes stand in one closed ring
+--   less_edge, spent   the words of names after an edge, and after some
 --   Discounted         words of names that held rows hold the book's discounted rows, where labels tell the components
 --   Subtracted         the same whatever the labels are
 --   NotEnough          no count that fits the work memory is held
 --   PassedOver         the names that keep their counts
-use Rattle.std.specs.Prelude.{◌≡◌, ℕ, zero, suc, ◌+◌, ◌*◌, ◌^◌, ◌<◌, ◌≤◌, Bool, true, false, not, ◌&&◌, List, length, ◌==◌, slice_index, if◌then◌else◌}
-use Rattle.rules.specs.Tables.{NameRow, Counts, names_width, edges_width, names_in_words, table}
+use Rattle.std.specs.Prelude.{◌≡◌, ℕ, ◌+◌, ◌*◌, ◌^◌, ◌<◌, ◌≤◌, Bool, true, false, not, ◌&&◌, List, [], ◌∷◌, length, ◌==◌, slice_index, if◌then◌else◌}
+use Rattle.rules.specs.Tables.{NameRow, Counts, names_width, names_in_words, table}
 use Rattle.rules.specs.Rings.{component, has_other, has_entry, led_into, discount_row, discount}
 use Rattle.tables.specs.Held.{changed}
-use Rattle.tables.specs.Counts.{row_word, usage_word, assign_word, less_counts}
-use Rattle.graph.specs.Graphs.{source, target, Components}
+use Rattle.tables.specs.Counts.{less_counts}
+use Rattle.graph.specs.Graphs.{Components}
 use Rattle.rings.specs.Ringed.{Ready}
-use Rattle.rings.specs.Marking.{joins}
+use Rattle.rings.specs.Joining.{joins}
+use Rattle.rings.specs.declared.edge_rows.NodeEdge.{NodeEdge}
 
 -- two nodes are not one, have one label, and its mark is 1
 abbrev pub in_one_ring : (labels closed : List ℕ) → (from to : ℕ) → Bool
 in_one_ring labels closed from to = not (from == to) && (slice_index labels from == slice_index labels to && slice_index closed (slice_index labels to) == 1)
 
--- edge k joins such nodes
-abbrev pub within_ring : (edges : List (ℕ × ℕ)) → (labels closed : List ℕ) → ℕ → Bool
-within_ring edges labels closed k = in_one_ring labels closed (source edges k) (target edges k)
+-- the words of names less the weights of an edge, if it joins such nodes
+abbrev pub less_edge : (labels closed : List ℕ) → NodeEdge → (names : List ℕ) → List ℕ
+less_edge labels closed e names =
+    if in_one_ring labels closed e.source e.target then changed names_width (e.target + 1) (less_counts e.weight.usage e.weight.assign) names else names
 
--- the words of names less the weights of those among the first edges that join such nodes
-abbrev pub spent : (edges labels closed : List ℕ) → (count : ℕ) → (names : List ℕ) → List ℕ
-spent edges labels closed zero names = names
-spent edges labels closed (suc k) names =
-    if within_ring (joins edges) labels closed k
-    then changed names_width (target (joins edges) k + 1) (less_counts (row_word edges_width (k + 1) usage_word edges) (row_word edges_width (k + 1) assign_word edges)) (spent edges labels closed k names)
-    else spent edges labels closed k names
+-- less the weights of those among some edges that do
+abbrev pub spent : (labels closed : List ℕ) → List NodeEdge → (names : List ℕ) → List ℕ
+spent labels closed [] names = names
+spent labels closed (e ∷ es) names = spent labels closed es (less_edge labels closed e names)
 
 -- words of names that held the rows of a count hold the discounted rows, where the labels of the nodes tell the components
 abbrev pub Discounted : (names edges labels : List ℕ) → (count : ℕ) → (after : List ℕ) → Type 0

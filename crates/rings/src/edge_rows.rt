@@ -1,58 +1,83 @@
-ghost use Rattle.std.specs.Prelude.{◌≡◌, ◌+◌, ◌<◌, length, slice_index_or};
+ghost use Rattle.std.specs.Prelude.{◌≡◌, ⊤, length};
+ghost use Rattle.std.specs.Iterator.{item_count};
 ghost use Rattle.rules.specs.Tables.{edges_width};
-ghost use Rattle.tables.specs.Counts.{row_word, usage_word, assign_word};
-ghost use Rattle.rings.specs.Marking.{joins};
+ghost use Rattle.rings.specs.Joining.{node_edge, node_edges, joins, edges_left, GivesEdge};
 
 use graph::Edges as Graph;
-use tables::{Edges, VarInfo, row_count};
+use tables::{Edges, Row, Rows, VarInfo, row_count};
 
-/// How many edges the table has.
-pub fn edge_count(edges: &[u32]) -> usize
-    ensures { result ≡ length (joins edges.now) }
-{
-    row_count::<Edges>(edges)
+/// An edge between nodes, with its weights. A node is a row of names, from 0.
+#[derive(Clone, Copy)]
+pub struct NodeEdge {
+    pub source: u32,
+    pub target: u32,
+    pub weight: VarInfo,
 }
 
-/// The nodes that edge `k` leaves and enters: rows of names, from 0.
-pub fn edge_ends(edges: &[u32], k: usize) -> (u32, u32)
-    requires { k < length (joins edges.now) }
-    ensures { result ≡ slice_index_or (joins edges.now) k (0, 0) }
-{
-    match Edges::ends(edges, k + 1) {
-        Some(ends) => (ends.from.saturating_sub(1), ends.to.saturating_sub(1)),
-        None => (0, 0),
+impl NodeEdge {
+    /// That of a row of edges.
+    fn of(row: &[u32]) -> NodeEdge
+        requires { length row.now ≡ edges_width }
+        ensures { result ≡ node_edge row.now }
+    {
+        let ends = Edges::key(row);
+        NodeEdge {
+            source: ends.from.saturating_sub(1),
+            target: ends.to.saturating_sub(1),
+            weight: VarInfo::read(row),
+        }
     }
 }
 
-/// The weights of edge `k`.
-pub fn edge_weight(edges: &[u32], k: usize) -> VarInfo
-    requires { k < length (joins edges.now) }
-    ensures usage { result.usage ≡ row_word edges_width (k + 1) usage_word edges.now }
-    ensures assign { result.assign ≡ row_word edges_width (k + 1) assign_word edges.now }
-{
-    match Edges::weight(edges, k + 1) {
-        Some(weight) => weight,
-        None => VarInfo {
-            usage: 0,
-            assign: 0,
-        },
-    }
-}
-
-/// A table of edges as the edges of a graph, whose nodes are the rows of names from 0.
+/// The edges of a table in their order.
 #[derive(Drop)]
+pub struct NodeEdges<'t> {
+    rows: Rows<'t, Edges>,
+}
+
+impl Iterator for NodeEdges<'_> {
+    type Item = NodeEdge;
+
+    ghost can_next = { λ _. ⊤ };
+
+    ghost next_gives = { GivesEdge };
+
+    ghost remaining = { item_count edges_left };
+
+    fn next(&mut self) -> Option<NodeEdge> {
+        let row = self.rows.next()?;
+        Some(NodeEdge::of(row))
+    }
+}
+
+/// A table of edges as the edges of a graph.
+#[derive(Clone, Copy)]
 pub struct EdgeRows<'t> {
     pub words: &'t [u32],
 }
 
-impl<'t> Graph for EdgeRows<'t> {
+impl<'t> EdgeRows<'t> {
+    /// Its edges in their order.
+    pub fn iter(&self) -> NodeEdges<'t>
+        ensures { edges_left result ≡ node_edges self.now.words.now }
+    {
+        NodeEdges {
+            rows: Rows::of(self.words),
+        }
+    }
+}
+
+impl Graph for EdgeRows<'_> {
     ghost list = { λ s. joins s.words.now };
 
     fn len(&self) -> usize {
-        edge_count(self.words)
+        row_count::<Edges>(self.words)
     }
 
     fn edge(&self, k: usize) -> (u32, u32) {
-        edge_ends(self.words, k)
+        let words = self.words;
+        let start = k * Edges::WIDTH;
+        let edge = NodeEdge::of(&words[start..start + Edges::WIDTH]);
+        (edge.source, edge.target)
     }
 }

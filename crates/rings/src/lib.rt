@@ -5,18 +5,18 @@ ghost use Rattle.rings.specs.Spending.{Subtracted, NotEnough};
 
 mod discount;
 mod edge_rows;
+mod labelled;
 pub mod laws;
 mod marks;
+mod members;
 mod subtract;
 mod verdict;
 
-use discount::subtract_labelled;
+use discount::subtract_rings;
 use edge_rows::EdgeRows;
-use graph::{Edges, GraphFault, components};
+use graph::{GraphFault, NODES, components};
+use labelled::Labelled;
 use tables::{Names, row_count};
-
-/// The first number of names that is refused.
-const NODES: usize = 0x8000_0000;
 
 /// Discounts names that only refer to each other: from the counts of each name of a closed ring it takes, modulo 2^32, the weights of the
 /// edges from the other names of the ring. A closed ring is a component of two names or more without an entry and without an edge from
@@ -32,12 +32,13 @@ pub fn subtract_cycles(names: &mut [u32], edges: &[u32], work: &mut [u32]) -> Re
         return Err(GraphFault::NoRoom);
     }
     let (labels, rest) = work.split_at_mut(nodes);
-    let rows = EdgeRows { words: edges };
-    match components(&rows, rest, labels) {
-        Ok(count) => {
-            subtract_labelled(names, edges, labels, count as usize, rest);
-            Ok(())
-        }
-        Err(fault) => Err(fault),
-    }
+    let edges = EdgeRows { words: edges };
+    let count = components(&edges, rest, labels)? as usize;
+    let graph = Labelled {
+        edges,
+        labels,
+        count,
+    };
+    subtract_rings(names, &graph, rest);
+    Ok(())
 }

@@ -1,44 +1,26 @@
-ghost use Rattle.std.specs.Prelude.{◌≡◌, ◌<◌, ◌≤◌, length};
-ghost use Rattle.rings.specs.Marking.{entered_at, Members, Ruled};
+ghost use Rattle.std.specs.Prelude.{◌≡◌, length};
+ghost use Rattle.rings.specs.Marking.{entered_at, Ruled};
 
-use tables::Names;
+use crate::members::ByLabel;
+use tables::{Flag, Names};
 
 /// Rules on each label, whether its nodes are a closed ring: there are two or more, and none is an entry or marked as one that an edge
-/// enters from outside. A closed ring's label gets 1, and any other 0.
-pub fn mark_closed(
-    names: &[u32],
-    labels: &[u32],
-    firsts: &[u32],
-    nexts: &[u32],
-    marks: &[u32],
-    closed: &mut [u32],
-)
-    requires members { Members labels.now (length labels.now) firsts.now nexts.now }
-    requires firsts_long { length closed.old ≤ length firsts.now }
-    requires nexts_long { length nexts.now ≡ length labels.now }
-    requires marks_long { length marks.now ≡ length labels.now }
-    ensures { Ruled (entered_at names.now) labels.now marks.now closed.new (length closed.old) }
+/// enters from outside. A closed ring's label gets 1, and any other 0: a number, since the words are lent.
+pub fn mark_closed(names: &[u32], by_label: ByLabel<'_, '_>, marks: &[u32], closed: &mut [u32])
+    requires closed_long { length closed.old ≡ length by_label.firsts.now }
+    requires marks_long { length marks.now ≡ length by_label.labels.now }
+    ensures { Ruled (entered_at names.now) by_label.entry.labels.now marks.now closed.new (length closed.old) }
 {
-    'cycles: for cycle in 0..closed.len() {
-        closed[cycle] = 0;
-        let first = firsts[cycle] as usize;
-        if first == 0 {
+    'cycles: for (cycle, ruled) in closed.iter_mut().enumerate() {
+        *ruled = 0;
+        if by_label.nodes(cycle).nth(1).is_none() {
             continue;
         }
-        if nexts[first - 1] == 0 {
-            continue;
-        }
-        let mut link = first;
-        while link != 0 {
-            let node = link - 1;
-            if Names::is_entry(names, node + 1) {
+        for node in by_label.nodes(cycle) {
+            if Names::is(names, node + 1, Flag::Entry) || marks[node] != 0 {
                 continue 'cycles;
             }
-            if marks[node] != 0 {
-                continue 'cycles;
-            }
-            link = nexts[node] as usize;
         }
-        closed[cycle] = 1;
+        *ruled = 1;
     }
 }

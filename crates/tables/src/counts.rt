@@ -44,7 +44,7 @@ impl VarInfo {
     }
 
     /// The counts of a row.
-    fn read(row: &[u32]) -> VarInfo
+    pub fn read(row: &[u32]) -> VarInfo
         requires { 4 ≤ length row.now }
         ensures usage { result.usage ≡ slice_index row.now usage_word }
         ensures assign { result.assign ≡ slice_index row.now assign_word }

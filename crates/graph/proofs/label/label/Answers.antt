@@ -1,27 +1,21 @@
-use Rattle.std.proofs.Common.{◌≡◌, length, get_or, ap, ◌∙◌, subst, arith}
+use Rattle.std.proofs.Common.{length, get_or, refl, ap, ◌∙◌, subst, arith, rules}
 use Rattle.std.proofs.lemmas.List.{get_or-replicate}
+use Rattle.graph.specs.Graphs.{Components}
 use Rattle.graph.specs.Searching.{Linked}
-use Rattle.graph.proofs.Linking.{linked_all}
-use Rattle.graph.proofs.Finishing.{begun, seen_settled, finished}
+use Rattle.graph.proofs.Finishing.{begun, finished}
 use Rattle.graph.proofs.label.label.Goals as goal
 
-pub explore-count-requires : goal.explore-count-requires
-explore-count-requires g c =
-    let es = g.E.Edges.list c.args.edges.now in
-    let same : length c.args.turns.now ≡ length c.fill.new.self = omega arith in
-    let all = subst (λ n. Linked es n (length es) c.link.new.turns c.link.new.links) same c.in_ok-link.ensures in
-    record {
-      star = linked_all all;
-      room = omega arith;
-      walk = begun (omega arith) all (λ v h. ap (λ l. get_or l v 0) (c.fill.ensures.after (λ y e. e)) ∙ get_or-replicate (length c.args.labels.now) v 0 0 (omega arith));
-    }
-
-pub lower-requires : goal.lower-requires
-lower-requires g c = λ v h. omega (arith, seen_settled c.explore-count.ensures.walk v (omega arith) (c.explore-count.ensures.seen v (omega arith)))
+pub invariant_of-walk : goal.invariant_of-walk
+invariant_of-walk g c =
+    let linked : Linked (g.E.Edges.list c.args.edges.now) (length c.split_at_mut-turns.result.0.now) (length (g.E.Edges.list c.args.edges.now)) c.link.new.turns c.link.new.links = search rules in
+    begun (subst (λ n. Linked (g.E.Edges.list c.args.edges.now) n (length (g.E.Edges.list c.args.edges.now)) c.link.new.turns c.link.new.links) (omega arith) linked) (omega arith)
+    (record { few = omega arith; turns_long = omega arith; stack_long = omega arith; back_long = omega arith; borders_long = omega arith; places_long = refl })
+    (λ v h. ap (λ l. get_or l v 0) (c.fill.ensures.after (λ y e. e)) ∙ get_or-replicate _ v 0 0 (omega arith)) refl refl refl refl
 
 pub returns : goal.returns
 returns g c =
-    let es = g.E.Edges.list c.args.edges.now in
-    let same : length c.args.turns.now ≡ length c.fill.new.self = omega arith in
-    let all = subst (λ n. Linked es n (length es) c.link.new.turns c.link.new.links) same c.in_ok-link.ensures in
-    finished (linked_all all).inside c.explore-count.ensures.walk c.explore-count.ensures.seen c.lower.new.labels (omega arith) (λ v h. omega (arith, c.lower.ensures v (omega arith)))
+    let all = rw (← c.walk.view_is) at c.explore.ensures.seen in
+    let nodes = ap (λ v. v.nodes) c.walk.view_is ∙ c.explore.ensures.onward.nodes in
+    subst (λ es. Components es c.lower.new.labels c.walk.inside.count) (ap (λ v. v.edges) c.walk.view_is ∙ c.explore.ensures.onward.edges)
+    (finished c.walk.invariant (rw (← c.walk.view_is) at c.explore.ensures.empty) (λ v h. all v (omega arith)) c.lower.new.labels (omega arith)
+    (λ v h. omega (arith, c.lower.ensures v (omega arith))))

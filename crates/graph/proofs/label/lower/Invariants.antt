@@ -1,6 +1,5 @@
-use Rattle.std.proofs.Common.{◌≡◌, ℕ, ◌+◌, ◌<◌, ◌≤◌, get_or}
+use Rattle.std.proofs.Common.{◌≡◌, ℕ, ◌+◌, ◌<◌, get_or}
 use Rattle.graph.proofs.label.lower.Given as goal
 
-abbrev pub invariant-loop-label : goal.invariant-loop-label
-invariant-loop-label l = ((v : ℕ) → v < l.label-index → get_or l.labels v 0 + l.by ≡ get_or l.initial.labels v 0)
-    × ((v : ℕ) → l.label-index ≤ v → get_or l.labels v 0 ≡ get_or l.initial.labels v 0)
+abbrev pub invariant-loop-node : goal.invariant-loop-node
+invariant-loop-node l = (v : ℕ) → v < l.node → get_or l.labels v 0 + l.by ≡ get_or l.places v 0

@@ -1,19 +1,35 @@
-use Rattle.std.proofs.Common.{◌+◌, sym, subst, arith}
-use Rattle.rings.specs.Marking.{joins, Outside}
-use Rattle.rings.proofs.Following.{outside_stay, outside_next}
+use Rattle.std.proofs.Common.{length, subst, arith, rules}
+use Rattle.std.proofs.lemmas.Grind.{common_steps}
+use Rattle.rings.specs.Joining.{joins}
+use Rattle.rings.specs.Marking.{Outside}
+use Rattle.std.proofs.lemmas.List.{length-append}
+use Rattle.rings.proofs.Marked.{outside_same}
+use Rattle.rings.proofs.Joined.{Met, edge_met, edges_over}
 use Rattle.rings.proofs.marks.mark_outside.Goals as goal
-use Rattle.rings.proofs.marks.mark_outside.Goals.{then-labels-source, else-labels-source}
+use Rattle.rings.proofs.marks.mark_outside.Goals.{In-Some}
 
-pub loop-k-preserved : goal.loop-k-preserved
-loop-k-preserved c =
-    let edges = joins c.args.edges.now in
-    let labels = c.args.labels.now in
-    let k = c.loop-k.k in
-    let marks = c.loop-k.marks in
-    let ends = c.edge_ends-source.result in
-    elim c.if-labels-source.branch [
-      | then-labels-source w ↦ subst (Outside edges labels (k + 1)) (sym w.marks-is)
-          (outside_next edges labels marks k ends c.edge_ends-source.ensures (omega arith) (omega (arith, c.requires.inside.targets k (omega arith), c.fill.ensures.len)) w.if-labels-source.true c.loop-k.invariant)
-      | else-labels-source w ↦ subst (Outside edges labels (k + 1)) (sym w.marks-is)
-          (outside_stay edges labels marks k ends c.edge_ends-source.ensures w.if-labels-source.false c.loop-k.invariant)
-    ]
+met : (c : In-Some) → Met c.args.graph.now.edges.words.now (length c.args.graph.now.labels.now) (length c.loop-edge.yielded) c.in-Some.edge
+met c = edge_met c.args.graph.now.edges.words.now c.into_iter-edge-iterator.result c.loop-edge.edge-iterator c.loop-edge.yielded (search rules) c.loop-edge.yielded_by c.next.new.self c.next.result c.in-Some.edge c.in-Some.is c.next.ensures.steps _ c.args.graph.now.inside
+
+pub bounds-graph-edge : goal.bounds-graph-edge
+bounds-graph-edge c = (met (goal.at.bounds-graph-edge c).In-Some).source_in
+
+pub bounds-graph-edge-in-loop-edge : goal.bounds-graph-edge-in-loop-edge
+bounds-graph-edge-in-loop-edge c = (met (goal.at.bounds-graph-edge-in-loop-edge c).In-Some).target_in
+
+pub bounds-marks-edge : goal.bounds-marks-edge
+bounds-marks-edge c = let m = met (goal.at.bounds-marks-edge c).In-Some in omega (arith, c.fill.ensures.len)
+
+pub loop-edge-preserved-then-graph-edge : goal.loop-edge-preserved-then-graph-edge
+loop-edge-preserved-then-graph-edge c = let m = met (goal.at.loop-edge-preserved-then-graph-edge c).In-Some in grind (arith, common_steps, c.fill.ensures.len)
+
+pub loop-edge-preserved : goal.loop-edge-preserved
+loop-edge-preserved c =
+    let m = met (goal.at.loop-edge-preserved c).In-Some in
+    rw length-append (outside_same _ _ _ _ _ _ m.source_is m.target_is c.loop-edge.invariant c.if-graph-edge.false)
+
+pub returns : goal.returns
+returns c = subst
+    (λ n. Outside (joins c.args.graph.now.edges.words.now) c.args.graph.now.labels.now n c.loop-edge.marks)
+    (edges_over c.args.graph.now.edges.words.now c.into_iter-edge-iterator.result c.loop-edge.edge-iterator c.loop-edge.yielded (search rules) c.loop-edge.yielded_by c.next.new.self c.next.result c.in-None.is c.next.ensures.steps)
+    c.loop-edge.invariant

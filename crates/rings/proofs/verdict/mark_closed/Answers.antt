@@ -1,65 +1,34 @@
-use Rattle.std.proofs.Common.{◌-◌, length, get_or, set, sym, ◌∙◌, subst, arith, length-set}
-use Rattle.std.proofs.lemmas.Bool.{both_ways}
+use Rattle.std.proofs.Common.{get_or, sym, ap, ◌∙◌, subst, arith}
 use Rattle.rings.specs.Marking.{entered_at, Latest}
-use Rattle.rings.proofs.Following.{Followed, Calm, quiet_empty, quiet_single, quiet_all, ruled_more, ruled_again}
+use Rattle.rings.proofs.Quieting.{Followed, followed_more, Calm, lone_told, paired_told, lone_loud, paired_quiet, ruled_more}
 use Rattle.rings.proofs.verdict.mark_closed.Goals as goal
 
-pub cycles-preserved-then-first-eq0 : goal.cycles-preserved-then-first-eq0
-cycles-preserved-then-first-eq0 c =
-    let names = c.args.names.now in
-    let labels = c.args.labels.now in
-    let marks = c.args.marks.now in
-    let cycle = c.cycles.cycle in
-    let first = c.requires.members.first cycle (omega arith) in
-    ruled_more (entered_at names) labels marks c.cycles.closed cycle 0 (omega arith) c.cycles.invariant
-    (quiet_empty (entered_at names) labels marks cycle (subst (Latest labels cycle (length labels)) c.if-first-eq0.true first))
-
-pub cycles-preserved-then-nexts-first-eq0 : goal.cycles-preserved-then-nexts-first-eq0
-cycles-preserved-then-nexts-first-eq0 c =
-    let names = c.args.names.now in
-    let labels = c.args.labels.now in
-    let marks = c.args.marks.now in
-    let cycle = c.cycles.cycle in
-    let link = get_or c.args.firsts.now cycle 0 in
-    let first = c.requires.members.first cycle (omega arith) in
-    let low = first.before in
-    let next = c.requires.members.next (link - 1) (omega arith) in
-    ruled_more (entered_at names) labels marks c.cycles.closed cycle 0 (omega arith) c.cycles.invariant
-    (quiet_single (entered_at names) labels marks cycle link (omega arith) first
-    (subst (Latest labels (get_or labels (link - 1) 0) (link - 1)) c.if-nexts-first-eq0.true next))
-
-pub cycles-preserved-then-is_entry : goal.cycles-preserved-then-is_entry
-cycles-preserved-then-is_entry c =
-    let names = c.args.names.now in
-    let labels = c.args.labels.now in
-    let marks = c.args.marks.now in
-    let link = c.loop-link.link in
-    let low = c.loop-link.invariant.0 in
-    ruled_more (entered_at names) labels marks c.cycles.closed c.cycles.cycle 0 (omega arith) c.cycles.invariant
-    (λ q. both_ways (entered_at names (link - 1)) (q.calm (link - 1) (omega arith) (c.loop-link.invariant.1 (link - 1) (omega arith))).0
-    (sym c.is_entry.ensures.row ∙ c.if-is_entry.true))
-
-pub cycles-preserved-then-marks-node-ne0 : goal.cycles-preserved-then-marks-node-ne0
-cycles-preserved-then-marks-node-ne0 c =
-    let names = c.args.names.now in
-    let labels = c.args.labels.now in
-    let marks = c.args.marks.now in
-    let link = c.loop-link.link in
-    let low = c.loop-link.invariant.0 in
-    ruled_more (entered_at names) labels marks c.cycles.closed c.cycles.cycle 0 (omega arith) c.cycles.invariant
-    (λ q. c.if-marks-node-ne0.true (q.calm (link - 1) (omega arith) (c.loop-link.invariant.1 (link - 1) (omega arith))).1)
+pub cycles-preserved-then-is_none : goal.cycles-preserved-then-is_none
+cycles-preserved-then-is_none c =
+    let nodes = c.args.by_label in
+    let entered = entered_at c.args.names.now in
+    let lone = lone_told nodes.nexts.now (get_or nodes.firsts.now c.cycles.cycle 0) c.nodes.result c.nth.new.self c.nth.result c.nodes.ensures.nexts c.nodes.ensures.link c.nth.ensures.ran c.if-is_none.ensures in
+    ruled_more entered nodes.labels.now c.args.marks.now c.cycles.closed c.cycles.cycle 0 (omega arith) c.cycles.invariant
+    (lone_loud entered nodes.labels.now c.args.marks.now nodes.firsts.now nodes.nexts.now nodes.linked c.cycles.cycle (omega arith) lone)
 
 pub cycles-preserved : goal.cycles-preserved
 cycles-preserved c =
-    let names = c.args.names.now in
-    let labels = c.args.labels.now in
-    let marks = c.args.marks.now in
-    let cycle = c.cycles.cycle in
-    let link = get_or c.args.firsts.now cycle 0 in
-    let first = c.requires.members.first cycle (omega arith) in
-    let low = first.before in
-    let next = c.requires.members.next (link - 1) (omega arith) in
-    ruled_more (entered_at names) labels marks (set c.cycles.closed cycle 0) cycle 1 (simp length-set (omega arith))
-    (ruled_again (entered_at names) labels marks c.cycles.closed cycle 0 c.cycles.invariant)
-    (quiet_all (entered_at names) labels marks cycle link (get_or c.args.nexts.now (link - 1) 0) (omega arith) (omega arith) first next
-    (subst (Followed (Calm (entered_at names) labels marks cycle) labels cycle) c.loop-link-test.false c.loop-link.invariant))
+    let nodes = c.args.by_label in
+    let entered = entered_at c.args.names.now in
+    let paired = paired_told nodes.nexts.now (get_or nodes.firsts.now c.cycles.cycle 0) c.nodes.result c.nth.new.self c.nth.result c.nodes.ensures.nexts c.nodes.ensures.link c.nth.ensures.ran c.if-is_none.ensures in
+    ruled_more entered nodes.labels.now c.args.marks.now c.cycles.closed c.cycles.cycle 1 (omega arith) c.cycles.invariant
+    (paired_quiet entered nodes.labels.now c.args.marks.now nodes.firsts.now nodes.nexts.now nodes.linked c.cycles.cycle (omega arith) paired
+    (subst (Followed (Calm entered nodes.labels.now c.args.marks.now) nodes.labels.now c.cycles.cycle) c.in-None.ensures.steps c.loop-node.invariant.followed))
+
+pub loop-node-preserved : goal.loop-node-preserved
+loop-node-preserved c =
+    let by_label = c.args.by_label in
+    let node = c.in-Some.node in
+    let steps = c.in-Some.ensures.steps in
+    let next = steps.onward ∙ ap (λ l. get_or l node 0) c.loop-node.invariant.nexts in
+    record {
+      nexts = steps.nexts ∙ c.loop-node.invariant.nexts;
+      followed = followed_more _ by_label.labels.now c.cycles.cycle c.loop-node.node-iterator.link node c.next.new.self.link steps.here c.loop-node.invariant.followed
+          (subst (Latest by_label.labels.now (get_or by_label.labels.now node 0) node) (sym next) (by_label.linked.next node (omega (arith, steps.here, c.loop-node.invariant.followed.0))))
+          (sym c.is.ensures.row ∙ c.if-is.false, c.if-marks-node-ne0.false);
+    }
