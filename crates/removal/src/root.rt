@@ -14,13 +14,8 @@ use crate::treat::treat;
 use edit::slots::first_slot;
 use edit::sweep;
 use judge::Judge;
+use records::{Children, MOST_NESTING, ROOT};
 use verdicts::{Basis, Config, Place, TreeShaker};
-
-/// The root's record.
-const ROOT: u32 = 1;
-
-/// The most records on a way down.
-const MOST_NESTING: u32 = 128;
 
 /// Removes from a checked tree what the rules take, and says whether something was removed.
 pub fn remove<'t, J: Judge>(
@@ -46,11 +41,12 @@ pub fn remove<'t, J: Judge>(
             names,
         },
     };
-    let root = Place::at_root();
-    if !root.enters_at(words, ROOT) {
+    let place = Place::at_root();
+    let root = Children::of(words, ROOT);
+    if !place.enters_at(root) {
         return false;
     }
-    let inside = root.below(words, ROOT);
+    let inside = place.below(root);
     let slot = first_slot(ROOT);
     let changed = treat(&shaker, inside, words, slot, MOST_NESTING);
     sweep(words, slot);

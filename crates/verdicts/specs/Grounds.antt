@@ -4,8 +4,8 @@
 --   by_words                  settings, judge and retain list, with the words of declared and names
 --   config_of, by_of          the code's settings, and all that its tests go by, beside what the judge means
 --   silent                    the judge of the tests that ask none
---   info_row                  a name's row as the code has it
-use Rattle.std.specs.Prelude.{ℕ, Bool, false, not, List, Some, None, Option, ◌==◌}
+--   info_row                  a counted name's row as the code has it
+use Rattle.std.specs.Prelude.{ℕ, Bool, true, false, not, List, Some, None, Option, ◌==◌}
 use Rattle.rules.specs.Tree.{Chain, Name}
 use Rattle.rules.specs.Names.{among}
 use Rattle.rules.specs.Tables.{NameRow, fresh, names_width, read_declared}
@@ -54,6 +54,6 @@ by_of acts b = by_words (config_of b.config acts b.retain.now) b.declared.now b.
 abbrev pub silent : Chain → Bool
 silent c = false
 
--- a name's row as the code has it
+-- a counted name's row as the code has it
 abbrev pub info_row : Name → NameInfo → NameRow
-info_row n i = record { name = n; usage = i.usage; assign = i.assign; entry = i.entry; counted = i.counted }
+info_row n i = record { name = n; usage = i.usage; assign = i.assign; entry = i.entry; counted = true }

@@ -1,14 +1,16 @@
-ghost use Rattle.std.specs.Prelude.{◌≡◌, false};
+ghost use Rattle.std.specs.Prelude.{◌≡◌, ℕ, Bool, false, List, MatchOption};
+ghost use Rattle.rules.specs.Tree.{Chain, Name};
 ghost use Rattle.rules.specs.Kinds.{member};
 ghost use Rattle.rules.specs.Names.{among};
 ghost use Rattle.rules.specs.Tables.{read_declared};
-ghost use Rattle.rules.specs.Removal.{permitted, can_drop_binding, can_drop_assignment_to};
-ghost use Rattle.tables.specs.Matching.{name_of_id};
+ghost use Rattle.rules.specs.Removal.{permitted, unused, never_read, can_drop_binding, can_drop_assignment_to};
+ghost use Rattle.records.specs.Ids.{name_of_id};
 ghost use Rattle.shaker.specs.Places.{place_of};
-ghost use Rattle.verdicts.specs.Grounds.{row_in_words, info_row, by_of, silent};
+ghost use Rattle.verdicts.specs.Grounds.{row_in_words, info_row, config_of, by_of, silent};
 
+use records::Id;
 use shaker::place::Place;
-use tables::{Declared, Id, Names, find};
+use tables::{Counted, Declared, Flag, Names, find};
 
 /// The settings.
 #[derive(Clone, Copy)]
@@ -26,44 +28,43 @@ pub struct Basis<'t> {
     pub names: &'t [u32],
 }
 
-/// The counts and flags of a name's row.
+/// What is read of a name's row where the name was counted.
 #[derive(Clone, Copy)]
 struct NameInfo {
     usage: u32,
     assign: u32,
     entry: bool,
-    counted: bool,
 }
 
 impl NameInfo {
-    /// A row before anything is counted.
-    fn fresh() -> NameInfo
-        ensures { result ≡ record { usage = 0; assign = 0; entry = false; counted = false } }
+    /// The row of a name, if it has one and was counted.
+    fn counted(names: &[u32], id: Id) -> Option<NameInfo>
+        ensures { MatchOption result ((row_in_words names.now (name_of_id id)).counted ≡ false) (λ i. row_in_words names.now (name_of_id id) ≡ info_row (name_of_id id) i) }
     {
-        NameInfo {
-            usage: 0,
-            assign: 0,
-            entry: false,
-            counted: false,
+        let row = find::<Names>(names, &id)?;
+        if !Names::is(names, row, Flag::Counted) {
+            return None;
         }
-    }
-
-    /// A name's row in names; a missing one reads as a fresh one.
-    fn of(names: &[u32], id: Id) -> NameInfo
-        ensures { info_row (name_of_id id) result ≡ row_in_words names.now (name_of_id id) }
-    {
-        let Some(row) = find::<Names>(names, &id) else {
-            return NameInfo::fresh();
-        };
-        let Some(counts) = Names::info(names, row) else {
-            return NameInfo::fresh();
-        };
-        NameInfo {
+        let counts = Names::counts(names, row)?;
+        Some(NameInfo {
             usage: counts.usage,
             assign: counts.assign,
-            entry: Names::is_entry(names, row),
-            counted: Names::is_counted(names, row),
-        }
+            entry: Names::is(names, row, Flag::Entry),
+        })
+    }
+
+    /// Whether nothing reads or writes the name.
+    fn is_unused(self) -> bool
+        ensures { (n : Name) → result ≡ unused (info_row n self) }
+    {
+        self.usage == 0 && self.assign == 0
+    }
+
+    /// Whether nothing reads the name; an entry is read from outside, except under `top_level`.
+    fn is_never_read(self, config: Config) -> bool
+        ensures { (n : Name) (acts : Chain → Bool) (retain : List ℕ) → result ≡ never_read (config_of config acts retain) (info_row n self) }
+    {
+        self.usage == 0 && (config.top_level || !self.entry)
     }
 }
 
@@ -71,6 +72,7 @@ impl NameInfo {
 fn retained(retain: &[u32], symbol: u32) -> bool
     ensures { result ≡ member symbol retain.now }
 {
+    // A loop, since a rule of the project wants the retain list walked by one.
     for kept in retain {
         if *kept == symbol {
             return true;
@@ -103,24 +105,18 @@ impl<'t> Basis<'t> {
     pub fn can_drop_binding(&self, place: Place, is_var: bool, id: Id) -> bool
         ensures { result ≡ can_drop_binding (by_of silent self.now) (place_of place) is_var (name_of_id id) }
     {
-        if !self.permits(place, is_var) || retained(self.retain, id.symbol) {
-            return false;
-        }
-        let info = NameInfo::of(self.names, id);
-        !info.counted || (info.usage == 0 && info.assign == 0)
+        self.permits(place, is_var)
+            && !retained(self.retain, id.symbol)
+            && NameInfo::counted(self.names, id).map_or(true, |info| info.is_unused())
     }
 
     /// Whether an Assignment to a name can go. Whether it is a `var` is not looked at.
     pub fn can_drop_assignment_to(&self, place: Place, id: Id) -> bool
         ensures { result ≡ can_drop_assignment_to (by_of silent self.now) (place_of place) (name_of_id id) }
     {
-        if !self.permits(place, false)
-            || retained(self.retain, id.symbol)
-            || !is_declared(self.declared, id)
-        {
-            return false;
-        }
-        let info = NameInfo::of(self.names, id);
-        info.counted && info.usage == 0 && (self.config.top_level || !info.entry)
+        self.permits(place, false)
+            && !retained(self.retain, id.symbol)
+            && is_declared(self.declared, id)
+            && NameInfo::counted(self.names, id).is_some_and(|info| info.is_never_read(self.config))
     }
 }
