@@ -120,40 +120,41 @@ impl Expected {
     pub(crate) fn may_end(self) -> bool
         ensures { result ≡ may_end (ways self) }
     {
-        match self {
+        matches!(
+            self,
             Expected::Nothing
-            | Expected::Items
-            | Expected::Statements
-            | Expected::Specifiers
-            | Expected::ExportNames
-            | Expected::MaybeExpression
-            | Expected::Expressions
-            | Expected::PlainParts
-            | Expected::PlainStatements
-            | Expected::PlainLast
-            | Expected::MaybeBlock
-            | Expected::MoreDeclarators
-            | Expected::ForAfterVar
-            | Expected::ForDone
-            | Expected::Members
-            | Expected::PatternParts => true,
-            _ => false,
-        }
+                | Expected::Items
+                | Expected::Statements
+                | Expected::Specifiers
+                | Expected::ExportNames
+                | Expected::MaybeExpression
+                | Expected::Expressions
+                | Expected::PlainParts
+                | Expected::PlainStatements
+                | Expected::PlainLast
+                | Expected::MaybeBlock
+                | Expected::MoreDeclarators
+                | Expected::ForAfterVar
+                | Expected::ForDone
+                | Expected::Members
+                | Expected::PatternParts
+        )
     }
+
     /// What is expected after a child of this kind, or nothing if it is misplaced.
     pub(crate) fn after(self, kind: Kind) -> Option<Expected>
         ensures { ways_after result ≡ step (kind_word kind) (ways self) }
     {
         match self {
-            Expected::Root => (kind.is(Kind::Module) || kind.is(Kind::Script)).then_some(
+            Expected::Root => (kind == Kind::Module || kind == Kind::Script).then_some(
                 Expected::Nothing,
             ),
             Expected::Nothing | Expected::ForDone => None,
             Expected::Items => kind.is_item().then_some(Expected::Items),
             Expected::Statements => kind.is_statement().then_some(Expected::Statements),
-            Expected::Specifiers => kind.is(Kind::Specifier).then_some(Expected::Specifiers),
+            Expected::Specifiers => (kind == Kind::Specifier).then_some(Expected::Specifiers),
             Expected::OneDeclaration => kind.is_declaration().then_some(Expected::Nothing),
-            Expected::ExportNames => kind.is(Kind::ExportName).then_some(Expected::ExportNames),
+            Expected::ExportNames => (kind == Kind::ExportName).then_some(Expected::ExportNames),
             Expected::OneDefinition => kind.is_definition_expression().then_some(Expected::Nothing),
             Expected::OneExpression => kind.is_expression().then_some(Expected::Nothing),
             Expected::MaybeExpression => kind.is_expression().then_some(Expected::Nothing),
@@ -163,20 +164,20 @@ impl Expected {
             Expected::PlainParts => kind.is_statement().then_some(Expected::PlainLast),
             Expected::PlainStatements => kind.is_statement().then_some(Expected::PlainLast),
             Expected::PlainLast => kind.is_statement().then_some(Expected::Nothing),
-            Expected::TryBlock => kind.is(Kind::Block).then_some(Expected::TryHandler),
-            Expected::TryHandler if kind.is(Kind::Catch) => Some(Expected::MaybeBlock),
-            Expected::TryHandler => kind.is(Kind::Block).then_some(Expected::Nothing),
-            Expected::MaybeBlock => kind.is(Kind::Block).then_some(Expected::Nothing),
-            Expected::OneBlock => kind.is(Kind::Block).then_some(Expected::Nothing),
-            Expected::OneFunction => kind.is(Kind::Function).then_some(Expected::Nothing),
-            Expected::OneClass => kind.is(Kind::Class).then_some(Expected::Nothing),
-            Expected::Declarators => kind
-                .is(Kind::Declarator)
-                .then_some(Expected::MoreDeclarators),
-            Expected::MoreDeclarators => kind
-                .is(Kind::Declarator)
-                .then_some(Expected::MoreDeclarators),
-            Expected::ForHead if kind.is(Kind::VarDeclaration) => Some(Expected::ForAfterVar),
+            Expected::TryBlock => (kind == Kind::Block).then_some(Expected::TryHandler),
+            Expected::TryHandler if kind == Kind::Catch => Some(Expected::MaybeBlock),
+            Expected::TryHandler => (kind == Kind::Block).then_some(Expected::Nothing),
+            Expected::MaybeBlock => (kind == Kind::Block).then_some(Expected::Nothing),
+            Expected::OneBlock => (kind == Kind::Block).then_some(Expected::Nothing),
+            Expected::OneFunction => (kind == Kind::Function).then_some(Expected::Nothing),
+            Expected::OneClass => (kind == Kind::Class).then_some(Expected::Nothing),
+            Expected::Declarators => (kind == Kind::Declarator).then_some(
+                Expected::MoreDeclarators,
+            ),
+            Expected::MoreDeclarators => (kind == Kind::Declarator).then_some(
+                Expected::MoreDeclarators,
+            ),
+            Expected::ForHead if kind == Kind::VarDeclaration => Some(Expected::ForAfterVar),
             Expected::ForHead if kind.is_pattern() => Some(Expected::ForAfterPattern),
             Expected::ForHead | Expected::ForAfterVar | Expected::ForAfterPattern
                 if kind.is_expression() => { Some(Expected::ForSecond) }
@@ -190,28 +191,28 @@ impl Expected {
                 .then_some(Expected::ForDone),
             Expected::WithObject => kind.is_expression().then_some(Expected::OneStatement),
             Expected::CatchPattern if kind.is_pattern() => Some(Expected::OneBlock),
-            Expected::CatchPattern => kind.is(Kind::Block).then_some(Expected::Nothing),
+            Expected::CatchPattern => (kind == Kind::Block).then_some(Expected::Nothing),
             Expected::DeclaratorPattern => kind.is_pattern().then_some(Expected::MaybeExpression),
             Expected::Parameters if kind.is_pattern() => Some(Expected::Parameters),
-            Expected::Parameters => kind.is(Kind::Block).then_some(Expected::Nothing),
+            Expected::Parameters => (kind == Kind::Block).then_some(Expected::Nothing),
             Expected::Superclass => kind.is_expression().then_some(Expected::Members),
             Expected::Members => kind.is_class_member().then_some(Expected::Members),
             Expected::MethodKey => kind.is_expression().then_some(Expected::OneFunction),
             Expected::PropertyKey => kind.is_expression().then_some(Expected::MaybeExpression),
             Expected::ArrowParameters if kind.is_pattern() => Some(Expected::ArrowParameters),
-            Expected::ArrowParameters => (kind.is(Kind::Block) || kind.is_expression()).then_some(
+            Expected::ArrowParameters => (kind == Kind::Block || kind.is_expression()).then_some(
                 Expected::Nothing,
             ),
             Expected::Callee => kind.is_expression().then_some(Expected::Expressions),
-            Expected::AssignmentTarget if kind.is(Kind::CompoundPattern) => Some(
+            Expected::AssignmentTarget if kind == Kind::CompoundPattern => Some(
                 Expected::OneExpression,
             ),
             Expected::AssignmentTarget | Expected::UpdateTarget => {
-                (kind.is(Kind::NamePattern) || kind.is(Kind::PlainExpression)).then_some(
+                (kind == Kind::NamePattern || kind == Kind::PlainExpression).then_some(
                     Expected::OneExpression,
                 )
             }
-            Expected::PatternParts => (kind.is_pattern() || kind.is(Kind::PropertyName)).then_some(
+            Expected::PatternParts => (kind.is_pattern() || kind == Kind::PropertyName).then_some(
                 Expected::PatternParts,
             ),
             Expected::DefaultedPattern => kind.is_pattern().then_some(Expected::OneExpression),

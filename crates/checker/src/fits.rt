@@ -26,7 +26,7 @@ fn name_fits(node: Record) -> bool
     let bare = node.symbol == 0 && node.mark == 0;
     if is_named(node.kind) {
         node.symbol != 0
-    } else if node.kind.is(Kind::Literal) {
+    } else if node.kind == Kind::Literal {
         node.mark == 0
     } else if node.kind.is_definition_expression() {
         node.symbol != 0 || bare
@@ -39,31 +39,31 @@ fn name_fits(node: Record) -> bool
 fn is_named(kind: Kind) -> bool
     ensures { result ≡ named (kind_word kind) }
 {
-    match kind {
+    matches!(
+        kind,
         Kind::Specifier
-        | Kind::ExportName
-        | Kind::FnDeclaration
-        | Kind::ClassDeclaration
-        | Kind::Identifier
-        | Kind::NamePattern
-        | Kind::PropertyName => true,
-        _ => false,
-    }
+            | Kind::ExportName
+            | Kind::FnDeclaration
+            | Kind::ClassDeclaration
+            | Kind::Identifier
+            | Kind::NamePattern
+            | Kind::PropertyName
+    )
 }
 
 /// Whether flag 1 has a sense for this kind.
 fn may_be_flagged(kind: Kind) -> bool
     ensures { result ≡ may_be_flagged (kind_word kind) }
 {
-    match kind {
+    matches!(
+        kind,
         Kind::PlainStatement
-        | Kind::VarDeclaration
-        | Kind::Function
-        | Kind::Class
-        | Kind::Method
-        | Kind::Property
-        | Kind::PlainExpression
-        | Kind::Assignment => true,
-        _ => false,
-    }
+            | Kind::VarDeclaration
+            | Kind::Function
+            | Kind::Class
+            | Kind::Method
+            | Kind::Property
+            | Kind::PlainExpression
+            | Kind::Assignment
+    )
 }

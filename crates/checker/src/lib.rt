@@ -14,13 +14,9 @@ mod walk;
 
 use expected::Expected;
 pub use fault::CheckFault;
-use walk::{RECORD_WORDS, Siblings};
-
-/// Which word of a record links to the next of its chain.
-const NEXT: usize = 5;
-
-/// The number of a tree's first record.
-pub const ROOT: u32 = 1;
+pub use records::ROOT;
+use records::{NEXT, RECORD_WORDS};
+use walk::Siblings;
 
 /// The most records of a tree.
 pub const MOST_RECORDS: usize = 16_384;
@@ -38,6 +34,7 @@ pub fn check(words: &[u32]) -> Result<u32, CheckFault>
     if !root_is_alone(words) {
         return Err(CheckFault::Misfit(ROOT));
     }
+    // Work memory is fixed: a mark for each record that a tree may have.
     let mut seen = [false; MOST_RECORDS];
     let count = walk::chain(
         words,

@@ -11,19 +11,13 @@ ghost use Rattle.checker.specs.Walking.{Marks, unmarked, Taken, Untaken, Walked}
 use crate::expected::Expected;
 use crate::fault::CheckFault;
 use crate::fits::fits;
-use records::Record;
-
-/// How many words a record has.
-pub(crate) const RECORD_WORDS: usize = 6;
-
-/// The most records on a way down, the root included.
-pub(crate) const MOST_NESTING: u32 = 128;
+use records::{MOST_NESTING, RECORD_WORDS, Record};
 
 /// A chain of records on the walk: whose children they are, and how deep they stand.
 #[derive(Clone, Copy)]
 pub(crate) struct Siblings {
     pub(crate) parent: u32,
-    pub(crate) nesting: u32,
+    pub(crate) nesting: usize,
 }
 
 impl Siblings {
@@ -45,9 +39,7 @@ impl Siblings {
         if self.nesting > MOST_NESTING {
             return Err(CheckFault::Deep(n));
         }
-        let Some(node) = Record::at(words, n) else {
-            return Err(CheckFault::Misfit(n));
-        };
+        let node = Record::at(words, n).ok_or(CheckFault::Misfit(n))?;
         match expected.after(node.kind) {
             Some(next) if fits(node) => Ok((node, next)),
             _ => Err(CheckFault::Misfit(n)),
@@ -81,6 +73,7 @@ pub(crate) fn chain(
 {
     let mut count = 0;
     let mut at = first;
+    // The links are not yet known to end, so `Children` can't walk them: each turn sets a mark instead.
     while at != 0 {
         let (node, next) = siblings.take(words, at, expected, seen)?;
         seen[at as usize - 1] = true;

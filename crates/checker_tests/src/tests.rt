@@ -1,7 +1,7 @@
 use crate::written::Written;
 use checker::{CheckFault, check};
-use records::Kind;
 use records::write::{set_first, turn_into};
+use records::{Kind, RECORD_WORDS};
 use std::process::Abort;
 
 #[test]
@@ -41,7 +41,7 @@ fn each_kind_may_stand_so(rt: HostRuntime) {
         ("1(16(20(38(39(37:1,28)))))", 7),
     ];
     for (text, count) in &trees {
-        assert_eq!(rt; check(&Written::from(text).words), Ok(*count), "{}", text);
+        assert_eq!(rt; check(&Written::from(*text).words), Ok(*count), "{}", text);
     }
 }
 
@@ -49,7 +49,7 @@ fn each_kind_may_stand_so(rt: HostRuntime) {
 fn misfits(rt: &impl Abort, trees: &[(&str, u32)]) {
     for (text, n) in trees {
         assert_eq!(rt;
-            check(&Written::from(text).words),
+            check(&Written::from(*text).words),
             Err(CheckFault::Misfit(*n)),
             "{}",
             text
@@ -298,7 +298,7 @@ fn nested(count: u32, last: u32) -> [u32; 780] {
     let mut words = [0; 780];
     words[0] = 1;
     nest(&mut words, count);
-    if let Some(word) = words.get_mut((count as usize).wrapping_sub(1).wrapping_mul(6)) {
+    if let Some(word) = words.get_mut((count as usize).wrapping_sub(1).wrapping_mul(RECORD_WORDS)) {
         *word = last;
     }
     words

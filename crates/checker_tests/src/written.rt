@@ -1,5 +1,6 @@
 //! Trees written as text: `12!1(28,37:5)` is a record of kind 12 with flags 1 over one of kind 28 and one of kind 37 with
 //! symbol 5; `37:5:2` has mark 2 besides. Records are numbered from 1 as they stand in the text.
+use records::RECORD_WORDS;
 use records::write::{set_first, set_next};
 
 /// How many words a written tree may have.
@@ -15,9 +16,9 @@ pub struct Written {
     depth: usize,
 }
 
-impl Written {
+impl From<&str> for Written {
     /// The tree that the text says.
-    pub fn from(text: &str) -> Written {
+    fn from(text: &str) -> Written {
         let mut tree = Written {
             words: [0; ROOM],
             record: 1,
@@ -37,7 +38,9 @@ impl Written {
         }
         tree
     }
+}
 
+impl Written {
     /// A first child of the record begins.
     fn descend(&mut self) {
         let parent = self.record;
@@ -84,8 +87,8 @@ impl Written {
     /// Where a word of the record stands.
     fn slot(&self, field: usize) -> usize {
         (self.record as usize)
-            .wrapping_mul(6)
-            .wrapping_sub(6)
+            .wrapping_sub(1)
+            .wrapping_mul(RECORD_WORDS)
             .wrapping_add(field)
     }
 }

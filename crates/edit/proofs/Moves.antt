@@ -5,7 +5,7 @@
 --   child_at, child_by, rest_at, after_at        the slots of a record, and the one after a piece
 --   beneath, beneath_by, along, past               what is made there, seen from the slot of the record
 --   part_onto                          a piece in the place of the record that it was below
---   Going, started, turn, ended        the loop
+--   Going, turn, ended                 the loop
 use Rattle.std.proofs.Common.{◌≡◌, ℕ, ◌+◌, ◌-◌, ◌*◌, ◌<◌, ◌≤◌, List, length, get_or, sym, refl, ap, ◌∙◌, subst, inl, inr, arith}
 use Rattle.rules.specs.Tree.{Head, Chain}
 use Rattle.rules.specs.Tree.Chain.{end, link}
@@ -179,9 +179,6 @@ to_go w i = siblings (tree_of w (get_or w i 0))
 
 pub to_go_is : (c : Chain) (w : List ℕ) (i : ℕ) → Linked w i c → to_go w i ≡ siblings c
 to_go_is c w i at = ap siblings (read_back w (get_or w i 0) c at.holds at.apart).0
-
-pub started : (F : Chain → Chain) (w : List ℕ) (i : ℕ) (c : Chain) → Linked w i c → Going F w i c w i c
-started F w i c at = record { at = at; whole = λ v r. r }
 
 -- a turn that puts p in the place of the first record
 pub turn : (F : Chain → Chain) (w0 : List ℕ) (i0 : ℕ) (c : Chain) (w v : List ℕ) (i : ℕ) (h : Head) (ch rest p : Chain) →

@@ -1,11 +1,10 @@
--- The turns of the two loops along a chain: `sweep` unlinks a record or passes it, and `gather` puts its second child in its place.
-use Rattle.std.proofs.Common.{◌≡◌, ℕ, ◌<◌, true, false, ◌&&◌, ◌||◌, List, get_or, sym, refl, ap, ◌∙◌, subst}
-use Rattle.std.proofs.lemmas.Bool.{cond-true, cond-false, true≢false}
-use Rattle.rules.specs.Tree.{Head, Chain, ◌is◌, is_end, below, after}
+-- The turns of the loop along a chain whose records stay or give way, and what they do for `sweep` and for `gather`.
+use denote.Ref.{Bor}
+use Rattle.std.specs.Prelude.{Option, Some, None}
+use Rattle.std.proofs.Common.{◌≡◌, ℕ, ◌<◌, false, List, length, get_or, sym, ap, ◌∙◌, subst}
+use Rattle.rules.specs.Tree.{Head, Chain, is_end}
 use Rattle.rules.specs.Tree.Chain.{end, link}
-use Rattle.rules.specs.Kinds.{empty_statement, block}
-use Rattle.rules.specs.Removal.{swept, values}
-use Rattle.edit.specs.Slots.{next_slot, Linked, onto, Step, nothing}
+use Rattle.edit.specs.Slots.{next_slot, Linked, onto, Lift, Step, Heir, Thins}
 use Rattle.edit.proofs.Frames.{other_goes_on}
 use Rattle.edit.proofs.Moves.{Going, to_go, turn, same, number_at}
 
@@ -28,23 +27,48 @@ stepped F w0 i0 c w v i r h ch rest p how st going =
 pub some_at : (w : List ℕ) (i : ℕ) (c : Chain) → (get_or w i 0 ≡ 0 → ⊥) → Linked w i c → is_end c ≡ false
 some_at w i c ne at = other_goes_on w (get_or w i 0) c at.holds ne
 
-pub sweep_drops : (w0 : List ℕ) (i0 : ℕ) (c : Chain) (w v : List ℕ) (i r : ℕ) (todo : Chain) → true ≡ nothing todo →
-    Step w v i todo end r → Going swept w0 i0 c w i todo → Turned swept w0 i0 c w i v r
-sweep_drops w0 i0 c w v i r end goes st going = absurd (true≢false goes)
-sweep_drops w0 i0 c w v i r (link h ch rest) goes st going =
-    stepped swept w0 i0 c w v i r h ch rest end
-    (cond-true (h is empty_statement || (h is block && is_end ch)) (swept rest) (link h ch (swept rest)) (sym goes)) st going
+-- a loop whose answers are these, at a slot: it does what each `left` that they leave says, of each chain at the first slot
+abbrev pub Thinning : (answers : Bor (List ℕ) → ℕ → Option ℕ → Type 0) (w0 : List ℕ) (i0 : ℕ) (w : List ℕ) (i : ℕ) → Type 0
+Thinning answers w0 i0 w i = (i < length w) × ((left : Chain → Chain) → Thins answers left → (c : Chain) → Linked w0 i0 c → At left w0 i0 c w i)
 
-pub sweep_keeps : (w0 : List ℕ) (i0 : ℕ) (c : Chain) (w : List ℕ) (i r : ℕ) (todo : Chain) → r ≡ next_slot (get_or w i 0) → (get_or w i 0 ≡ 0 → ⊥) →
-    false ≡ nothing todo → Going swept w0 i0 c w i todo → Turned swept w0 i0 c w i w r
-sweep_keeps w0 i0 c w i r end er ne stays going = absurd (ne going.at.holds)
-sweep_keeps w0 i0 c w i r (link h ch rest) er ne stays going =
-    stepped swept w0 i0 c w w i r h ch rest (link h ch end)
-    (cond-false (h is empty_statement || (h is block && is_end ch)) (swept rest) (link h ch (swept rest)) (sym stays))
-    (record { made = same w i (link h ch rest) going.at; next = er ∙ ap next_slot (sym (number_at w i h ch rest going.at)) })
-    going
+-- a turn of it: the record at the slot gives way, or stays
+module _ {answers : Bor (List ℕ) → ℕ → Option ℕ → Type 0} {w0 : List ℕ} {i0 : ℕ} (some : (left : Chain → Chain) × Thins answers left) (first : (c : Chain) × Linked w0 i0 c)
+    (w : Bor (List ℕ)) (i : ℕ) (ne : get_or w.now i 0 ≡ 0 → ⊥) (loop : Thinning answers w0 i0 w.now i) where
+  heir : (left : Chain → Chain) → Thins answers left → (todo : Chain) {r : Option ℕ} → Linked w.now i todo → answers w (get_or w.now i 0) r → Heir left w.now todo r
+  heir left rule todo at a = rule.each w (get_or w.now i 0) _ a todo at.holds at.apart (some_at w.now i todo ne at)
 
-pub gather_turn : (w0 : List ℕ) (i0 : ℕ) (c : Chain) (w v : List ℕ) (i r : ℕ) (todo : Chain) → (get_or w i 0 ≡ 0 → ⊥) →
-    Step w v i todo (after (below todo)) r → Going values w0 i0 c w i todo → Turned values w0 i0 c w i v r
-gather_turn w0 i0 c w v i r end ne st going = absurd (ne going.at.holds)
-gather_turn w0 i0 c w v i r (link h ch rest) ne st going = stepped values w0 i0 c w v i r h ch rest (after ch) refl st going
+  lift : {v : ℕ} (left : Chain → Chain) (todo : Chain) → Linked w.now i todo → (e : Heir left w.now todo (Some v)) → Lift w.now i v todo e.0
+  lift left todo at e = record { at = at; some = some_at w.now i todo ne at; holds = e.1; part = e.2 }
+
+  pub may_lift : {v : ℕ} → answers w (get_or w.now i 0) (Some v) → (d : Chain) × (p : Chain) × Lift w.now i v d p
+  may_lift a =
+      let s = loop.1 some.0 some.1 first.0 first.1 in
+      let e = heir some.0 some.1 s.0 s.1.at a in
+      (s.0, e.0, lift some.0 s.0 s.1.at e)
+
+  -- a turn for each that goes for one
+  each : {u : List ℕ} {r : ℕ} → ((left : Chain → Chain) → Thins answers left → (c : Chain) → Linked w0 i0 c → Turned left w0 i0 c w.now i u r) →
+      Thinning answers w0 i0 u r × (to_go u r < to_go w.now i)
+  each one =
+      let t = one some.0 some.1 first.0 first.1 in
+      ((t.0.1.at.room, λ left rule c at. (one left rule c at).0), t.1)
+
+  pub lifted : {u : List ℕ} {v r : ℕ} → answers w (get_or w.now i 0) (Some v) → ((d p : Chain) → Lift w.now i v d p → Step w.now u i d p r) →
+      Thinning answers w0 i0 u r × (to_go u r < to_go w.now i)
+  lifted {u} {v} {r} a does = each (λ left rule c at. here left rule c (loop.1 left rule c at))
+    where
+      here : (left : Chain → Chain) → Thins answers left → (c : Chain) → At left w0 i0 c w.now i → Turned left w0 i0 c w.now i u r
+      here left rule c (end, going) = absurd (ne going.at.holds)
+      here left rule c (link h ch rest, going) =
+          let e = heir left rule (link h ch rest) going.at a in
+          stepped left w0 i0 c w.now u i r h ch rest e.0 e.3 (does (link h ch rest) e.0 (lift left (link h ch rest) going.at e)) going
+
+  pub stayed : {r : ℕ} → answers w (get_or w.now i 0) None → r ≡ next_slot (get_or w.now i 0) → Thinning answers w0 i0 w.now r × (to_go w.now r < to_go w.now i)
+  stayed {r} a er = each (λ left rule c at. here left rule c (loop.1 left rule c at))
+    where
+      here : (left : Chain → Chain) → Thins answers left → (c : Chain) → At left w0 i0 c w.now i → Turned left w0 i0 c w.now i w.now r
+      here left rule c (end, going) = absurd (ne going.at.holds)
+      here left rule c (link h ch rest, going) =
+          stepped left w0 i0 c w.now w.now i r h ch rest (link h ch end) (heir left rule (link h ch rest) going.at a)
+          (record { made = same w.now i (link h ch rest) going.at; next = er ∙ ap next_slot (sym (number_at w.now i h ch rest going.at)) })
+          going

@@ -4,12 +4,16 @@
 --   Linked                            a word, the slot, links to a chain
 --   Part                              a chain of records of another, each once
 --   Made                              the words, with a chain in the place of the one that a slot links to
+--   LinksChain, LinksRecord           a slot links to a chain; to a record
+--   Turns, TurnsRecord                what is made in the place of the chain or record, whichever the slot links to
 --   onto, slot_after                  what follows, after one record or none; its slot
 --   Lift, Step                        a record that gives way to one below it, or to none; what that comes to
+--   Heir, Leaves, Thins               what is left of a chain whose records stay or give way
 --   nothing                           what a list drops
 --   wrapped                           a chain put under a plain expression
-use Rattle.std.specs.Prelude.{◌≡◌, ℕ, ◌+◌, ◌-◌, ◌*◌, ◌/◌, ◌<◌, Bool, false, ◌&&◌, ◌||◌, List, length, ◌≢◌, slice_index, slice_set}
-use Rattle.rules.specs.Tree.{Chain, ◌is◌, is_end, below, after, alone, append}
+use Rattle.std.specs.Prelude.{◌≡◌, ℕ, ◌+◌, ◌-◌, ◌*◌, ◌/◌, ◌<◌, Bool, false, ◌&&◌, ◌||◌, Option, Some, None, List, length, ◌≢◌, slice_index, slice_set}
+use denote.Ref.{Bor}
+use Rattle.rules.specs.Tree.{Head, Chain, ◌is◌, is_end, below, after, alone, append}
 use Rattle.rules.specs.Tree.Chain.{end, link}
 use Rattle.rules.specs.Kinds.{empty_statement, block, plain_expression}
 use Rattle.rules.specs.Words.{Holds}
@@ -47,6 +51,23 @@ pub record Made (words written : List ℕ) (slot : ℕ) (c d : Chain) : Type 0 w
   pub part : Part d c
   pub others : (j : ℕ) → (j ≢ slot) → (Numbers (owner j) c → ⊥) → slice_index written j ≡ slice_index words j
 
+-- the slot links to a chain
+abbrev pub LinksChain : List ℕ → (slot : ℕ) → Type 0
+LinksChain words slot = (c : Chain) × Linked words slot c
+
+-- the slot links to a record
+abbrev pub LinksRecord : List ℕ → (slot : ℕ) → Type 0
+LinksRecord words slot = (h : Head) × (children : Chain) × (rest : Chain) × Linked words slot (link h children rest)
+
+-- whichever chain the slot links to, `f` of it is in its place
+abbrev pub Turns : (f : Chain → Chain) → (words written : List ℕ) → (slot : ℕ) → Type 0
+Turns f words written slot = (c : Chain) → Linked words slot c → Made words written slot c (f c)
+
+-- whichever record the slot links to, `f` of it is in its place
+abbrev pub TurnsRecord : (f : Head → Chain → Chain → Chain) → (words written : List ℕ) → (slot : ℕ) → Type 0
+TurnsRecord f words written slot =
+    (h : Head) (children rest : Chain) → Linked words slot (link h children rest) → Made words written slot (link h children rest) (f h children rest)
+
 -- what follows, after the first record of p, if it has one
 abbrev pub onto : (p rest : Chain) → Chain
 onto p rest = append (alone p) rest
@@ -67,6 +88,20 @@ pub record Lift (words : List ℕ) (slot v : ℕ) (c p : Chain) : Type 0 where
 pub record Step (words written : List ℕ) (slot : ℕ) (c p : Chain) (r : ℕ) : Type 0 where
   pub made : Made words written slot c (onto p (after c))
   pub next : r ≡ slot_after slot p
+
+-- by the answer, the first record of c stays in what is left of c, or gives way to a record below it, or to none
+abbrev pub Heir : (left : Chain → Chain) → (words : List ℕ) → (c : Chain) → Option ℕ → Type 0
+Heir left words c None = left c ≡ onto c (left (after c))
+Heir left words c (Some v) = (p : Chain) × Holds words v p × Part p (below c) × (left c ≡ onto p (left (after c)))
+
+-- such is the answer about the record that the link n leads to
+abbrev pub Leaves : (left : Chain → Chain) → (words : List ℕ) → (n : ℕ) → Option ℕ → Type 0
+Leaves left words n r = (c : Chain) → Holds words n c → Apart c → is_end c ≡ false → Heir left words c r
+
+-- by such answers `left` is what is left of a chain
+pub record Thins (answers : Bor (List ℕ) → ℕ → Option ℕ → Type 0) (left : Chain → Chain) : Type 0 where
+  pub none : left end ≡ end
+  pub each : (words : Bor (List ℕ)) (n : ℕ) (r : Option ℕ) → answers words n r → Leaves left words.now n r
 
 -- a list drops an Empty and a childless Block
 abbrev pub nothing : Chain → Bool

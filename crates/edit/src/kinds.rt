@@ -1,9 +1,8 @@
 ghost use Rattle.std.specs.Prelude.{◌≡◌, ◌<◌, length};
-ghost use Rattle.rules.specs.Tree.{Head, Chain};
 ghost use Rattle.rules.specs.Tree.Chain.{end, link};
 ghost use Rattle.rules.specs.Kinds.{empty_statement, expression_statement};
 ghost use Rattle.rules.specs.Removal.{become, joined};
-ghost use Rattle.edit.specs.Slots.{Linked, Made, wrapped};
+ghost use Rattle.edit.specs.Slots.{LinksChain, LinksRecord, Turns, TurnsRecord, wrapped};
 
 use crate::lists::gather;
 use crate::slots::{first_slot, next_of};
@@ -13,7 +12,7 @@ use records::write::{set_first, set_next, turn_into};
 /// Makes the record that the slot links to an Empty without children.
 pub fn empty(words: &mut [u32], slot: usize)
     requires { slot < length words.old }
-    ensures { (h : Head) (children rest : Chain) → Linked words.old slot (link h children rest) → Made words.old words.new slot (link h children rest) (link (become empty_statement h) end rest) }
+    ensures { TurnsRecord (λ h children rest. link (become empty_statement h) end rest) words.old words.new slot }
 {
     let n = words[slot];
     set_first(words, n, 0);
@@ -22,8 +21,8 @@ pub fn empty(words: &mut [u32], slot: usize)
 
 /// Puts their values in the place of the Declarators that the slot links to, several under a plain expression in the first one's record.
 pub fn join(words: &mut [u32], slot: usize)
-    requires { (c : Chain) × Linked words.old slot c }
-    ensures { (c : Chain) → Linked words.old slot c → Made words.old words.new slot c (joined c) }
+    requires { LinksChain words.old slot }
+    ensures { Turns joined words.old words.new slot }
 {
     let first = words[slot];
     gather(words, slot);
@@ -34,8 +33,8 @@ pub fn join(words: &mut [u32], slot: usize)
 
 /// Makes the Var that the slot links to an Expression statement of the values of its Declarators.
 pub fn restate(words: &mut [u32], slot: usize)
-    requires { (h : Head) × (children : Chain) × (rest : Chain) × Linked words.old slot (link h children rest) }
-    ensures { (h : Head) (children rest : Chain) → Linked words.old slot (link h children rest) → Made words.old words.new slot (link h children rest) (link (become expression_statement h) (joined children) rest) }
+    requires { LinksRecord words.old slot }
+    ensures { TurnsRecord (λ h children rest. link (become expression_statement h) (joined children) rest) words.old words.new slot }
 {
     let n = words[slot];
     join(words, first_slot(n));

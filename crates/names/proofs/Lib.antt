@@ -1,1 +1,2 @@
-pub mod Folding
+mod Joining
+mod Lists

@@ -1,3 +1,2 @@
 pub mod Sinks
 pub mod NameWalks
-pub mod Surrounds

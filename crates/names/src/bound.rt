@@ -1,58 +1,53 @@
-ghost use Rattle.std.specs.Prelude.{◌≡◌, ◌≤◌, MatchResult};
+ghost use Rattle.std.specs.Prelude.{◌≡◌};
 ghost use Rattle.rules.specs.Names.{binds, nests, bound};
-ghost use Rattle.rules.specs.Opening.{depth};
-ghost use Rattle.rules.specs.Refusals.Outcome.{fine, refused};
-ghost use Rattle.rules.specs.Words.{tree_of, Whole};
+ghost use Rattle.rules.specs.Refusals.{Says};
+ghost use Rattle.records.specs.Chains.{as_chain};
 ghost use Rattle.records.specs.Reads.{head_of};
 ghost use Rattle.names.specs.Sinks.{each};
-ghost use Rattle.names.specs.NameWalks.{walk_bound};
 
 use crate::sink::NameSink;
+use crate::walk::{Rule, walk};
 use records::{Children, Kind, Record};
 
-/// Hands the bound names of the patterns in the chain from the link on to the sink, to any depth and outside expressions.
-pub fn bound_names<S: NameSink>(
-    words: &[u32],
-    first: u32,
-    left: u32,
-    sink: &mut S,
-) -> Result<(), S::Fault>
-    requires whole { Whole words.now first }
-    requires deep { depth (tree_of words.now first) ≤ left }
-    ensures names { MatchResult result (λ _. each S.takes (bound (tree_of words.now first)) (S.held sink.old) ≡ fine (S.held sink.new)) (λ e. each S.takes (bound (tree_of words.now first)) (S.held sink.old) ≡ refused (S.number e) (S.place e)) }
+/// Hands the bound names of the patterns in a chain on to the sink, to any depth and outside expressions.
+#[tactic(auto, using(crate::proofs::Lists::lists_bound))]
+pub fn bound_names<S: NameSink>(patterns: Children<'_>, sink: &mut S) -> Result<(), S::Fault>
+    ensures names { Says (each S.takes (bound (as_chain patterns.entry)) (S.held sink.old)) (λ _. S.held sink.new) S.number S.place result }
     ensures stays { S.fixed sink.new ≡ S.fixed sink.old }
 {
-    walk(words, first, left, sink)
+    walk(patterns, Bound, sink)
 }
 
-/// The walk through the patterns of a chain.
-fn walk<S: NameSink>(words: &[u32], first: u32, left: u32, sink: &mut S) -> Result<(), S::Fault>
-    requires whole { Whole words.now first }
-    requires deep { depth (tree_of words.now first) ≤ left }
-    ensures walk { MatchResult result (λ _. walk_bound S.takes (tree_of words.now first) (S.held sink.old) ≡ fine (S.held sink.new)) (λ e. walk_bound S.takes (tree_of words.now first) (S.held sink.old) ≡ refused (S.number e) (S.place e)) }
-    ensures stays { S.fixed sink.new ≡ S.fixed sink.old }
-{
-    for (n, node) in Children::of(words, first) {
-        if binds_name(node) {
-            sink.take(n, node)?;
-        }
-        if has_patterns(node) {
-            walk(words, node.first, left - 1, sink)?;
-        }
+/// Gives the names that patterns bind.
+#[derive(Clone, Copy)]
+struct Bound;
+
+impl Rule for Bound {
+    ghost use Rattle.std.specs.Bool.{then_some};
+
+    ghost gives = { λ _. binds };
+
+    ghost inside = { λ rule h. then_some (nests h) rule };
+
+    fn gives(self, bearer: Record) -> bool {
+        binds_name(bearer)
     }
-    Ok(())
+
+    fn inside(self, parent: Record) -> Option<Bound> {
+        has_patterns(parent).then_some(self)
+    }
 }
 
 /// Whether a record binds its name.
 pub(crate) fn binds_name(node: Record) -> bool
     ensures { result ≡ binds (head_of 0 node) }
 {
-    node.kind.is(Kind::NamePattern) || node.kind.is(Kind::PropertyName)
+    node.kind == Kind::NamePattern || node.kind == Kind::PropertyName
 }
 
 /// Whether a record is a pattern made of patterns.
 pub(crate) fn has_patterns(node: Record) -> bool
     ensures { result ≡ nests (head_of 0 node) }
 {
-    node.kind.is(Kind::CompoundPattern) || node.kind.is(Kind::DefaultPattern)
+    node.kind == Kind::CompoundPattern || node.kind == Kind::DefaultPattern
 }

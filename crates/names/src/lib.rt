@@ -4,6 +4,7 @@ pub mod bound;
 pub mod declared;
 pub mod exported;
 pub mod sink;
+mod walk;
 
 pub use bound::bound_names;
 pub use declared::{declared_below, declared_names};

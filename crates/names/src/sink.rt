@@ -1,7 +1,6 @@
-ghost use Rattle.std.specs.Prelude.{◌≡◌, ℕ, MatchResult};
+ghost use Rattle.std.specs.Prelude.{◌≡◌, ℕ};
 ghost use Rattle.rules.specs.Tree.{Head};
-ghost use Rattle.rules.specs.Refusals.{Outcome};
-ghost use Rattle.rules.specs.Refusals.Outcome.{fine, refused};
+ghost use Rattle.rules.specs.Refusals.{Outcome, Says};
 ghost use Rattle.records.specs.Reads.{head_of};
 
 use records::Record;
@@ -29,6 +28,6 @@ pub trait NameSink {
 
     /// Takes the name that record `n` bears.
     fn take(&mut self, n: u32, bearer: Record) -> Result<(), Self::Fault>
-        ensures names { MatchResult result (λ _. takes (head_of n bearer) (held self.old) ≡ fine (held self.new)) (λ e. takes (head_of n bearer) (held self.old) ≡ refused (number e) (place e)) }
+        ensures names { Says (takes (head_of n bearer) (held self.old)) (λ _. held self.new) number place result }
         ensures stays { fixed self.new ≡ fixed self.old };
 }
