@@ -1,16 +1,15 @@
-ghost use Rattle.std.specs.Prelude.{◌≡◌, ℕ, Bool, false, List, MatchOption};
-ghost use Rattle.rules.specs.Tree.{Chain, Name};
+ghost use Rattle.std.specs.Prelude.{◌≡◌};
 ghost use Rattle.rules.specs.Kinds.{member};
 ghost use Rattle.rules.specs.Names.{among};
 ghost use Rattle.rules.specs.Tables.{read_declared};
 ghost use Rattle.rules.specs.Removal.{permitted, unused, never_read, can_drop_binding, can_drop_assignment_to};
 ghost use Rattle.records.specs.Ids.{name_of_id};
 ghost use Rattle.shaker.specs.Places.{place_of};
-ghost use Rattle.verdicts.specs.Grounds.{row_in_words, info_row, config_of, by_of, silent};
+ghost use Rattle.verdicts.specs.Grounds.{row_in_words, by_of, silent};
 
 use records::Id;
 use shaker::place::Place;
-use tables::{Counted, Declared, Flag, Names, find};
+use tables::{Declared, Names, VarInfo, find};
 
 /// The settings.
 #[derive(Clone, Copy)]
@@ -26,46 +25,6 @@ pub struct Basis<'t> {
     pub retain: &'t [u32],
     pub declared: &'t [u32],
     pub names: &'t [u32],
-}
-
-/// What is read of a name's row where the name was counted.
-#[derive(Clone, Copy)]
-struct NameInfo {
-    usage: u32,
-    assign: u32,
-    entry: bool,
-}
-
-impl NameInfo {
-    /// The row of a name, if it has one and was counted.
-    fn counted(names: &[u32], id: Id) -> Option<NameInfo>
-        ensures { MatchOption result ((row_in_words names.now (name_of_id id)).counted ≡ false) (λ i. row_in_words names.now (name_of_id id) ≡ info_row (name_of_id id) i) }
-    {
-        let row = find::<Names>(names, &id)?;
-        if !Names::is(names, row, Flag::Counted) {
-            return None;
-        }
-        let counts = Names::counts(names, row)?;
-        Some(NameInfo {
-            usage: counts.usage,
-            assign: counts.assign,
-            entry: Names::is(names, row, Flag::Entry),
-        })
-    }
-
-    /// Whether nothing reads or writes the name.
-    fn is_unused(self) -> bool
-        ensures { (n : Name) → result ≡ unused (info_row n self) }
-    {
-        self.usage == 0 && self.assign == 0
-    }
-
-    /// Whether nothing reads the name; an entry is read from outside, except under `top_level`.
-    fn is_never_read(self, config: Config) -> bool
-        ensures { (n : Name) (acts : Chain → Bool) (retain : List ℕ) → result ≡ never_read (config_of config acts retain) (info_row n self) }
-    {
-        self.usage == 0 && (config.top_level || !self.entry)
-    }
 }
 
 /// Whether the retain list has the symbol.
@@ -101,13 +60,27 @@ impl<'t> Basis<'t> {
             }
     }
 
+    /// Whether a name's row is missing, uncounted or with counts 0.
+    fn is_unused(&self, id: Id) -> bool
+        ensures { result ≡ unused (row_in_words self.now.names.now (name_of_id id)) }
+    {
+        Names::info(self.names, id).map_or(true, |info| info.counts == VarInfo::default())
+    }
+
+    /// Whether a name was counted and nothing reads it; an entry is read from outside, except under `top_level`.
+    fn is_never_read(&self, id: Id) -> bool
+        ensures { result ≡ never_read (by_of silent self.now).config (row_in_words self.now.names.now (name_of_id id)) }
+    {
+        let top_level = self.config.top_level;
+        Names::info(self.names, id).is_some_and(|info| info.counts.usage == 0
+            && (top_level || !info.entry))
+    }
+
     /// Whether a name's declaration can go.
     pub fn can_drop_binding(&self, place: Place, is_var: bool, id: Id) -> bool
         ensures { result ≡ can_drop_binding (by_of silent self.now) (place_of place) is_var (name_of_id id) }
     {
-        self.permits(place, is_var)
-            && !retained(self.retain, id.symbol)
-            && NameInfo::counted(self.names, id).map_or(true, |info| info.is_unused())
+        self.permits(place, is_var) && !retained(self.retain, id.symbol) && self.is_unused(id)
     }
 
     /// Whether an Assignment to a name can go. Whether it is a `var` is not looked at.
@@ -117,6 +90,6 @@ impl<'t> Basis<'t> {
         self.permits(place, false)
             && !retained(self.retain, id.symbol)
             && is_declared(self.declared, id)
-            && NameInfo::counted(self.names, id).is_some_and(|info| info.is_never_read(self.config))
+            && self.is_never_read(id)
     }
 }
