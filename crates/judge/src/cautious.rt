@@ -5,7 +5,7 @@ ghost use Rattle.judge.specs.Quiet.{quiet};
 ghost use Rattle.records.specs.KindWords.{kind_word};
 
 use crate::judge::Judge;
-use records::{Kind, Record};
+use records::{Children, Kind};
 
 /// The judge to whom everything acts but a literal, a function expression and an arrow function.
 #[derive(Clone, Copy)]
@@ -16,11 +16,10 @@ impl Judge for Cautious {
 
     ghost lawful = { λ _. cautious_lawful };
 
-    fn may_act(&self, words: &[u32], link: u32, left: u32) -> bool {
-        match Record::linked(words, link) {
-            Some(node) => !is_quiet(node.kind),
-            None => false,
-        }
+    fn may_act(&self, chain: Children<'_>) -> bool {
+        chain
+            .first()
+            .is_some_and(|node| !is_quiet(node.record.kind))
     }
 }
 
@@ -28,5 +27,5 @@ impl Judge for Cautious {
 fn is_quiet(kind: Kind) -> bool
     ensures { result ≡ quiet (kind_word kind) }
 {
-    kind.is(Kind::Literal) || kind.is(Kind::FunctionExpression) || kind.is(Kind::Arrow)
+    matches!(kind, Kind::Literal | Kind::FunctionExpression | Kind::Arrow)
 }

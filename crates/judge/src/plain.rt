@@ -1,12 +1,12 @@
-ghost use Rattle.std.specs.Prelude.{◌≡◌, ◌≤◌};
-ghost use Rattle.rules.specs.Words.{tree_of, Whole};
-ghost use Rattle.rules.specs.Opening.{depth};
+ghost use Rattle.std.specs.Prelude.{◌≡◌};
+ghost use Rattle.rules.specs.Tree.Chain.{end, link};
 ghost use Rattle.rules.specs.Judges.{plain, acts_itself, acts_by_child, some_acts};
+ghost use Rattle.records.specs.Chains.{as_chain, head_of_node};
 ghost use Rattle.records.specs.Reads.{head_of};
 ghost use Rattle.judge.specs.Numbers.{plain_lawful};
 
 use crate::judge::Judge;
-use records::{Children, Kind, Record};
+use records::{Children, Kind, Node, Record};
 
 /// The judge that looks at what an expression is made of, given the mark of unresolved names.
 #[derive(Clone, Copy)]
@@ -19,12 +19,8 @@ impl Judge for Plain {
 
     ghost lawful = { λ s. plain_lawful s.unresolved };
 
-    fn may_act(&self, words: &[u32], link: u32, left: u32) -> bool {
-        match Record::linked(words, link) {
-            Some(node) => self.acts_itself(node)
-                || (acts_by_child(node) && self.some_acts(words, node.first, left - 1)),
-            None => false,
-        }
+    fn may_act(&self, chain: Children<'_>) -> bool {
+        chain.first().is_some_and(|node| self.acts(node))
     }
 }
 
@@ -33,26 +29,29 @@ impl Plain {
     fn acts_itself(&self, node: Record) -> bool
         ensures { result ≡ acts_itself self.now.unresolved (head_of 0 node) }
     {
-        let kind = node.kind;
-        kind.is(Kind::ClassExpression)
-            || kind.is(Kind::Call)
-            || kind.is(Kind::Delete)
-            || kind.is(Kind::Assignment)
-            || (kind.is(Kind::PlainExpression) && node.flags == 1)
-            || (kind.is(Kind::Identifier) && node.mark == self.unresolved)
+        matches!(
+            node.kind,
+            Kind::ClassExpression | Kind::Call | Kind::Delete | Kind::Assignment
+        ) || (node.kind == Kind::PlainExpression && node.flags == 1)
+            || (node.kind == Kind::Identifier && node.mark == self.unresolved)
     }
 
-    /// Whether a record of the chain from the link on acts.
-    fn some_acts(&self, words: &[u32], first: u32, left: u32) -> bool
-        requires whole { Whole words.now first }
-        requires deep { depth (tree_of words.now first) ≤ left }
-        ensures { result ≡ some_acts self.now.unresolved (tree_of words.now first) }
+    /// Whether a record acts, by itself or by a child.
+    #[cycle(acting)]
+    fn acts(&self, node: Node<'_>) -> bool
+        ensures { result ≡ plain self.now.unresolved (link (head_of_node node.entry) (as_chain node.entry.below) end) }
     {
-        for (_, node) in Children::of(words, first) {
-            if self.acts_itself(node) {
-                return true;
-            }
-            if acts_by_child(node) && self.some_acts(words, node.first, left - 1) {
+        self.acts_itself(node.record) || (acts_by_child(node.record) && self.some_acts(node.below))
+    }
+
+    /// Whether a record of the chain acts.
+    #[cycle(acting)]
+    fn some_acts(&self, chain: Children<'_>) -> bool
+        ensures { result ≡ some_acts self.now.unresolved (as_chain chain.entry) }
+    {
+        // `any` is no plainer here: its closure, in a cycle of calls, would need a contract of its own.
+        for node in chain {
+            if self.acts(node) {
                 return true;
             }
         }
@@ -64,5 +63,5 @@ impl Plain {
 fn acts_by_child(node: Record) -> bool
     ensures { result ≡ acts_by_child (head_of 0 node) }
 {
-    node.kind.is(Kind::PlainExpression) || node.kind.is(Kind::Object)
+    node.kind == Kind::PlainExpression || node.kind == Kind::Object
 }

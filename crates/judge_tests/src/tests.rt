@@ -2,9 +2,8 @@ ghost use Rattle.std.specs.Prelude.{◌≡◌, IfSome};
 ghost use Rattle.rules.specs.Tree.{below};
 ghost use Rattle.rules.specs.Words.{tree_of};
 
-use checker::ROOT;
 use judge::{Cautious, Judge, Plain};
-use records::Record;
+use records::{Children, ROOT};
 use std::alloc::{AllocError, Global};
 use std::process::Abort;
 use std::test::Fail;
@@ -16,12 +15,9 @@ const UNRESOLVED: u32 = 1;
 fn first_acts<J: Judge>(judge: &J, words: &[u32]) -> Option<bool>
     ensures { IfSome result (λ b. b ≡ J.Judge.acts judge.now (below (below (tree_of words.now 1)))) }
 {
-    let Ok(_) = checker::check(words) else {
-        return None;
-    };
-    let root = Record::linked(words, ROOT)?;
-    let statement = Record::linked(words, root.first)?;
-    Some(judge.may_act(words, statement.first, 128))
+    checker::check(words).ok()?;
+    let script = Children::of(words, ROOT);
+    Some(judge.may_act(script.below().below()))
 }
 
 /// Both judges' answers to an expression, given by its records from number 3 on.

@@ -24,8 +24,7 @@ use Rattle.laws.proofs.KeepsChecked.{checked_again}
 use Rattle.edit.specs.Slots.{owner, first_slot, Linked, Made}
 use Rattle.edit.proofs.Frames.{number_is, number_within, stands_same, head_same}
 use Rattle.edit.proofs.Moves.{then}
-use Rattle.shaker.specs.Treating.{entered_first, place_below}
-use Rattle.shaker.specs.Treating.{Nested}
+use Rattle.shaker.specs.Treating.{entered_first, place_below, Nested}
 use Rattle.removal.proofs.Treats.{treats}
 
 -- a root's kind
@@ -96,17 +95,17 @@ module _ (w : List ℕ) where
 
   module _ (by : By) (q : Place) (is_root : q ≡ at_root) where
     -- a root that the rules enter
-    pub entered_root : (c : Chain) (v1 v2 : List ℕ) (s : ℕ) (z : Place) (a : Bool) → s ≡ first_slot 1 → check w ≡ fine c →
-        true ≡ entered_first q c → z ≡ place_below q c → Made w v1 s (below c) (treats by z (below c)) → a ≡ (treat by z (below c)).changed →
+    pub entered_root : (c k : Chain) → k ≡ c → (v1 v2 : List ℕ) (s : ℕ) (z : Place) (a : Bool) → s ≡ first_slot 1 → check w ≡ fine c →
+        true ≡ entered_first q k → z ≡ place_below q k → Made w v1 s (below c) (treats by z (below c)) → a ≡ (treat by z (below c)).changed →
         Made v1 v2 s (treats by z (below c)) (swept (treats by z (below c))) → LeftAtRoot by w v2 c a
-    entered_root end v1 v2 s z a es e en ez m ea sw = absurd (both_ways false refl (check_sound w end e).formed)
-    entered_root (link h ch (link g under rest)) v1 v2 s z a es e en ez m ea sw =
+    entered_root end k is v1 v2 s z a es e en ez m ea sw = absurd (both_ways false refl (check_sound w end e).formed)
+    entered_root (link h ch (link g under rest)) k is v1 v2 s z a es e en ez m ea sw =
         absurd (both_ways true (formed_one a_root [] (link h ch (link g under rest)) (check_sound w (link h ch (link g under rest)) e).formed).1.1 refl)
-    entered_root (link h ch end) v1 v2 s z a es e en ez m ea sw =
+    entered_root (link h ch end) k is v1 v2 s z a es e en ez m ea sw =
         let t = check_sound w (link h ch end) e in
         let inner : Left = treat by (place_inside at_root h) ch in
-        let is_z : z ≡ place_inside at_root h = ez ∙ ap (λ (x : Place). place_inside x h) is_root in
-        let yes : entered at_root h ch true ≡ true = sym (en ∙ ap (λ (x : Place). entered x h ch true) is_root) in
+        let is_z : z ≡ place_inside at_root h = ez ∙ ap (place_below q) is ∙ ap (λ (x : Place). place_inside x h) is_root in
+        let yes : entered at_root h ch true ≡ true = sym (en ∙ ap (entered_first q) is ∙ ap (λ (x : Place). entered x h ch true) is_root) in
         let sweep : verdict by at_root h ch inner.chain ≡ sweeps
         = root_sweeps by at_root h ch inner.chain (formed_one a_root [] (link h ch end) t.formed).0 in
         let here : treated (entered at_root h ch true) by at_root h ch inner ≡ done sweeps h inner
@@ -122,13 +121,13 @@ module _ (w : List ℕ) where
         }
 
     -- a root that they do not enter
-    pub passed_root : (c : Chain) → check w ≡ fine c → false ≡ entered_first q c → LeftAtRoot by w w c false
-    passed_root end e en = absurd (both_ways false refl (check_sound w end e).formed)
-    passed_root (link h ch (link g under rest)) e en =
+    pub passed_root : (c k : Chain) → k ≡ c → check w ≡ fine c → false ≡ entered_first q k → LeftAtRoot by w w c false
+    passed_root end k is e en = absurd (both_ways false refl (check_sound w end e).formed)
+    passed_root (link h ch (link g under rest)) k is e en =
         absurd (both_ways true (formed_one a_root [] (link h ch (link g under rest)) (check_sound w (link h ch (link g under rest)) e).formed).1.1 refl)
-    passed_root (link h ch end) e en =
+    passed_root (link h ch end) k is e en =
         let inner : Left = treat by (place_inside at_root h) ch in
-        let no : entered at_root h ch true ≡ false = sym (en ∙ ap (λ (x : Place). entered x h ch true) is_root) in
+        let no : entered at_root h ch true ≡ false = sym (en ∙ ap (entered_first q) is ∙ ap (λ (x : Place). entered x h ch true) is_root) in
         let here : treated (entered at_root h ch true) by at_root h ch inner ≡ treated false by at_root h ch inner
         = ap (λ (b : Bool). treated b by at_root h ch inner) no in
         record {

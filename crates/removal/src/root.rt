@@ -8,51 +8,33 @@ ghost use Rattle.rules.specs.Removal.{at_root, going_by};
 ghost use Rattle.rules.specs.Removal as book;
 ghost use Rattle.edit.specs.Slots.{owner};
 ghost use Rattle.tables.specs.Matching.{NamesHeld};
-ghost use Rattle.verdicts.specs.Grounds.{config_of, by_words};
+ghost use Rattle.verdicts.specs.Grounds.{config_of};
+ghost use Rattle.verdicts.specs.Shaking.{by_shaker};
 
 use crate::treat::treat;
 use edit::slots::first_slot;
 use edit::sweep;
 use judge::Judge;
-use verdicts::{Basis, Config, Place, TreeShaker};
-
-/// The root's record.
-const ROOT: u32 = 1;
-
-/// The most records on a way down.
-const MOST_NESTING: u32 = 128;
+use records::{Children, MOST_NESTING, ROOT};
+use shaker::Place;
+use verdicts::TreeShaker;
 
 /// Removes from a checked tree what the rules take, and says whether something was removed.
-pub fn remove<'t, J: Judge>(
-    judge: &'t J,
-    config: Config,
-    retain: &'t [u32],
-    declared: &'t [u32],
-    names: &'t [u32],
-    words: &mut [u32],
-) -> bool
+pub fn remove<J: Judge>(shaker: &TreeShaker<'_, J>, words: &mut [u32]) -> bool
     requires tree { check words.old ≡ fine (tree_of words.old 1) }
-    ensures tree { check words.new ≡ fine (book.treat (by_words (config_of config (J.Judge.acts judge.now) retain.now) declared.now names.now) at_root (tree_of words.old 1)).chain }
-    ensures changed { result ≡ (book.treat (by_words (config_of config (J.Judge.acts judge.now) retain.now) declared.now names.now) at_root (tree_of words.old 1)).changed }
-    ensures by { (found : List ℕ) (rs : List NameRow) → NamesHeld found rs names.now → by_words (config_of config (J.Judge.acts judge.now) retain.now) declared.now names.now ≡ going_by (config_of config (J.Judge.acts judge.now) retain.now) (read_declared declared.now) rs }
+    ensures tree { check words.new ≡ fine (book.treat (by_shaker J.Judge.acts shaker.now) at_root (tree_of words.old 1)).chain }
+    ensures changed { result ≡ (book.treat (by_shaker J.Judge.acts shaker.now) at_root (tree_of words.old 1)).changed }
+    ensures by { (found : List ℕ) (rs : List NameRow) → NamesHeld found rs shaker.now.basis.names.now → by_shaker J.Judge.acts shaker.now ≡ going_by (config_of shaker.now.basis.config (J.Judge.acts shaker.now.judge.now) shaker.now.basis.retain.now) (read_declared shaker.now.basis.declared.now) rs }
     ensures others { (j : ℕ) → (Numbers (owner j) (tree_of words.old 1) → ⊥) → slice_index words.new j ≡ slice_index words.old j }
 {
-    let shaker = TreeShaker {
-        judge,
-        basis: Basis {
-            config,
-            retain,
-            declared,
-            names,
-        },
-    };
-    let root = Place::at_root();
-    if !root.enters_at(words, ROOT) {
+    let place = Place::at_root();
+    let root = Children::of(words, ROOT);
+    if !place.enters_at(root) {
         return false;
     }
-    let inside = root.below(words, ROOT);
+    let inside = place.below(root);
     let slot = first_slot(ROOT);
-    let changed = treat(&shaker, inside, words, slot, MOST_NESTING);
+    let changed = treat(shaker, inside, words, slot, MOST_NESTING);
     sweep(words, slot);
     changed
 }

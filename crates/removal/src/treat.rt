@@ -1,43 +1,69 @@
 ghost use Rattle.std.specs.Prelude.{◌≡◌};
-ghost use Rattle.rules.specs.Tree.{Chain};
+ghost use Rattle.rules.specs.Tree.{Head, Chain};
+ghost use Rattle.rules.specs.Tree.Chain.{link};
 ghost use Rattle.rules.specs.Removal as book;
 ghost use Rattle.edit.specs.Slots.{Made};
 ghost use Rattle.shaker.specs.Places.{place_of};
-ghost use Rattle.verdicts.specs.Grounds.{by_of};
 ghost use Rattle.shaker.specs.Treating.{Nested};
+ghost use Rattle.removal.specs.Turns.{Treats};
 
 use edit::slots::{first_slot, next_slot};
-use judge::Judge;
-use shaker::perform::{perform, removes};
-use verdicts::look::has_children;
-use verdicts::{Place, TreeShaker};
+use records::Children;
+use shaker::perform::perform;
+use shaker::{Basis, Place};
+
+/// What a turn along a chain came to: the slot that follows, and whether something was removed.
+#[derive(Clone, Copy)]
+struct Turn {
+    next: usize,
+    changed: bool,
+}
 
 /// Treats the chain that the slot links to, each record after its children, and says whether something was removed.
-pub fn treat<J: Judge>(
-    shaker: &TreeShaker<J>,
-    place: Place,
-    words: &mut [u32],
-    slot: usize,
-    left: u32,
-) -> bool
+#[cycle(treating)]
+pub fn treat<B: Basis>(basis: &B, place: Place, words: &mut [u32], slot: usize, left: usize) -> bool
     requires { (c : Chain) × Nested words.old slot left c }
-    ensures made { (c : Chain) → Nested words.old slot left c → Made words.old words.new slot c (book.treat (by_of (J.Judge.acts shaker.now.judge.now) shaker.now.basis) (place_of place) c).chain }
-    ensures changed { (c : Chain) → Nested words.old slot left c → result ≡ (book.treat (by_of (J.Judge.acts shaker.now.judge.now) shaker.now.basis) (place_of place) c).changed }
+    ensures made { (c : Chain) → Nested words.old slot left c → Made words.old words.new slot c (book.treat (B.Basis.by basis.now) (place_of place) c).chain }
+    ensures changed { (c : Chain) → Nested words.old slot left c → result ≡ (book.treat (B.Basis.by basis.now) (place_of place) c).changed }
 {
     let mut changed = false;
     let mut at = slot;
+    // It follows the links of words that it changes, which no iterator over them can.
     while words[at] != 0 {
-        let n = words[at];
-        if place.enters_at(words, n) {
-            let had = has_children(words, n);
-            let inside = place.below(words, n);
-            let below = treat(shaker, inside, words, first_slot(n), left - 1);
-            let verdict = shaker.verdict(place, had, words, n, left);
-            at = perform(words, at, verdict);
-            changed = changed | below | removes(verdict);
-        } else {
-            at = next_slot(n);
-        }
+        let turn = treat_record(basis, place, words, at, left);
+        at = turn.next;
+        changed |= turn.changed;
     }
     changed
+}
+
+/// Treats the record that the slot links to, after its children.
+#[cycle(treating)]
+fn treat_record<B: Basis>(
+    basis: &B,
+    place: Place,
+    words: &mut [u32],
+    slot: usize,
+    left: usize,
+) -> Turn
+    requires { (h : Head) × (children : Chain) × (rest : Chain) × Nested words.old slot left (link h children rest) }
+    ensures { (h : Head) (children rest : Chain) → Nested words.old slot left (link h children rest) → Treats (B.Basis.by basis.now) (place_of place) words.old words.new slot h children rest result.next result.changed }
+{
+    let n = words[slot];
+    let found = Children::within(words, n, left);
+    if !place.enters_at(found) {
+        return Turn {
+            next: next_slot(n),
+            changed: false,
+        };
+    }
+    let had = !found.below().is_end();
+    let inside = place.below(found);
+    let below = treat(basis, inside, words, first_slot(n), left - 1);
+    let verdict = basis.verdict(place, had, Children::within(words, n, left));
+    let changed = below || verdict.removes();
+    Turn {
+        next: perform(words, slot, verdict),
+        changed,
+    }
 }

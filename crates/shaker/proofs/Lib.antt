@@ -1,3 +1,2 @@
-mod Looks
 mod Performs
 pub mod Deeps

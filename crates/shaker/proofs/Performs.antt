@@ -1,15 +1,13 @@
 -- What each verdict does: a record that stays, changed or not, is followed at its own slot; one that gives way is lifted.
-use Rattle.std.proofs.Common.{◌≡◌, ℕ, List, get_or, sym, refl, ap, ◌∙◌, subst, inl, inr}
+use Rattle.std.proofs.Common.{◌≡◌, ℕ, List, get_or, sym, refl, ap, ◌∙◌, inl, inr}
 use Rattle.rules.specs.Tree.{Head, Chain, below, after}
 use Rattle.rules.specs.Tree.Chain.{end, link}
 use Rattle.rules.specs.Words.{Holds}
 use Rattle.rules.specs.Held.{Apart}
 use Rattle.rules.specs.Removal.{wrapped_object}
 use Rattle.edit.specs.Slots.{next_slot, Linked, Part, Made, Lift, Step}
-use Rattle.edit.proofs.Moves.{number_at, same}
+use Rattle.edit.proofs.Moves.{number_at}
 use Rattle.edit.proofs.Lifts.{lift_nothing, lift_second}
-use Rattle.shaker.specs.Verdicts.{left_of}
-use Rattle.shaker.specs.declared.perform.Verdict.{Verdict}
 
 part_below : (c : Chain) → Apart c → Part (below c) c
 part_below end a = record { apart = tt; numbers = λ x k. k }
@@ -38,15 +36,6 @@ module _ (w : List ℕ) (i : ℕ) (h : Head) (ch rest : Chain) (at : Linked w i 
   to_object v held = record { at = at; some = refl; holds = held; part = part_wrapped ch at.apart.3 }
 
   -- a record with the same number, and the slot after it
-  pub stays_at : (v : List ℕ) (r : ℕ) (verdict what : Verdict) (g : Head) (d : Chain) → verdict ≡ what → left_of what h ch ≡ link g d end → g.number ≡ h.number →
-      r ≡ next_slot (get_or w i 0) → Made w v i (link h ch rest) (link g d rest) → Step w v i (link h ch rest) (left_of verdict h ch) r
-  stays_at v r verdict what g d e is eg er made =
-      subst (λ (p : Chain). Step w v i (link h ch rest) p r) (sym (ap (λ (z : Verdict). left_of z h ch) e ∙ is))
-      (record { made = made; next = er ∙ ap next_slot (sym (number_at w i h ch rest at) ∙ sym eg) })
-
-  pub gives_way : (v : List ℕ) (r : ℕ) (verdict what : Verdict) → verdict ≡ what → Step w v i (link h ch rest) (left_of what h ch) r →
-      Step w v i (link h ch rest) (left_of verdict h ch) r
-  gives_way v r verdict what e st = subst (λ (z : Verdict). Step w v i (link h ch rest) (left_of z h ch) r) (sym e) st
-
-  pub unchanged_at : Made w w i (link h ch rest) (link h ch rest)
-  unchanged_at = same w i (link h ch rest) at
+  pub stays_at : (v : List ℕ) (r : ℕ) (g : Head) (d : Chain) → g.number ≡ h.number → r ≡ next_slot (get_or w i 0) →
+      Made w v i (link h ch rest) (link g d rest) → Step w v i (link h ch rest) (link g d end) r
+  stays_at v r g d e is made = record { made = made; next = is ∙ ap next_slot (sym (number_at w i h ch rest at) ∙ sym e) }

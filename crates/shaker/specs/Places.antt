@@ -1,17 +1,11 @@
--- Names and places of the code as the book has them. The contracts of the tests cite it.
+-- Places of the code as the book has them. The contracts of the tests cite it.
 --
---   name_of_id, place_of      a name; a place
+--   parent_word, place_of      a parent's kind; a place
 use Rattle.std.specs.Prelude.{ℕ, Some, None, Option}
-use Rattle.rules.specs.Tree.{Name}
 use Rattle.rules.specs.Removal as book
 use Rattle.records.specs.KindWords.{kind_word}
 use Rattle.records.specs.declared.kind.Kind.{Kind}
-use Rattle.shaker.specs.declared.look.Id.{Id}
 use Rattle.shaker.specs.declared.place.Place.{Place}
-
--- a name
-abbrev pub name_of_id : Id → Name
-name_of_id n = record { symbol = n.symbol; mark = n.mark }
 
 -- a parent's kind; 0 for none
 abbrev pub parent_word : Option Kind → ℕ

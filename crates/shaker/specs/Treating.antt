@@ -1,29 +1,36 @@
 -- What is asked of a record and of a chain before it is treated. The contracts of the tests and of the trait `Basis` cite it.
 --
+--   listed, passed_by              the kinds with a list; the rules pass by a record for where it stands
 --   entered_by, entered_first      the rules enter a record; the first of a chain
 --   place_below                    the place of the first record's children
 --   choice                         what the rules do with the first record of a chain
 --   Nested                         a slot links to a chain that nests at most so deep
 use Rattle.std.specs.Prelude.{ℕ, ◌≤◌, Bool, false, not, ◌&&◌, ◌||◌, List, ◌==◌}
-use Rattle.rules.specs.Tree.{Head, Chain, ◌is◌, is_end}
+use Rattle.rules.specs.Tree.{Chain, is_end}
 use Rattle.rules.specs.Tree.Chain.{end, link}
-use Rattle.rules.specs.Kinds.{statement, pattern, export_default, delete_expression, with_statement, for_statement, var_declaration}
+use Rattle.rules.specs.Kinds.{module_root, script_root, block, statement, pattern, export_default, var_declaration, for_statement, with_statement, delete_expression}
 use Rattle.rules.specs.Opening.{depth}
-use Rattle.rules.specs.Removal.{By, Place, entered, has_list, place_inside, verdict}
+use Rattle.rules.specs.Removal.{By, Place, entered, place_inside, verdict}
 use Rattle.edit.specs.Slots.{Linked}
 use Rattle.shaker.specs.Verdicts.{verdict_of}
 use Rattle.shaker.specs.declared.perform.Verdict.{Verdict}
 use Rattle.shaker.specs.declared.perform.Verdict.TheVariants.{Stays}
 
--- the rules enter a record, given whether its children begin with 'use asm'
-abbrev pub entered_by : Place → Head → (asm last : Bool) → Bool
-entered_by p h asm last =
-    not (h is export_default
-    || (h is delete_expression
-    || ((p.parent == with_statement && statement h.kind)
-    || ((p.parent == for_statement && (h is var_declaration && not last))
-    || ((p.in_export && pattern h.kind)
-    || (has_list h && asm))))))
+-- the children of such a record are a list of statements or items
+abbrev pub listed : ℕ → Bool
+listed kind = kind == module_root || (kind == script_root || kind == block)
+
+-- the rules pass by a record of such a kind: a With's statement, a Var at the head of a For, a pattern of an exported Var, a list that begins with 'use asm'
+abbrev pub passed_by : Place → (kind : ℕ) → (asm last : Bool) → Bool
+passed_by p kind asm last =
+    (p.parent == with_statement && statement kind)
+    || ((p.parent == for_statement && (kind == var_declaration && not last))
+    || ((p.in_export && pattern kind)
+    || (listed kind && asm)))
+
+-- the rules enter such a record, given whether its children begin with 'use asm'
+abbrev pub entered_by : Place → (kind : ℕ) → (asm last : Bool) → Bool
+entered_by p kind asm last = not (kind == export_default || (kind == delete_expression || passed_by p kind asm last))
 
 -- the rules enter the first record of a chain
 abbrev pub entered_first : Place → Chain → Bool

@@ -1,21 +1,19 @@
-ghost use Rattle.std.specs.Prelude.{◌≡◌, ◌≤◌, not};
+ghost use Rattle.std.specs.Prelude.{◌≡◌, not};
 ghost use Rattle.rules.specs.Tree.{Chain, is_end};
-ghost use Rattle.rules.specs.Words.{tree_of, Whole};
-ghost use Rattle.rules.specs.Opening.{depth};
 ghost use Rattle.rules.specs.Removal.{By};
+ghost use Rattle.records.specs.Chains.{as_chain};
 ghost use Rattle.shaker.specs.Places.{place_of};
 ghost use Rattle.shaker.specs.Treating.{choice};
 
 use crate::perform::Verdict;
 use crate::place::Place;
+use records::Children;
 
 /// What a removal goes by.
 pub trait Basis {
     ghost by: { Self → By };
 
-    /// What the rules do with the record that `n` leads to, whose children are treated; `had` tells whether it was found with children.
-    fn verdict(&self, place: Place, had: bool, words: &[u32], n: u32, left: u32) -> Verdict
-        requires whole { Whole words.now n }
-        requires deep { depth (tree_of words.now n) ≤ left }
-        ensures { (found : Chain) → had ≡ not (is_end found) → result ≡ choice (by self.now) (place_of place) found (tree_of words.now n) };
+    /// What the rules do with the first record of the chain, whose children are treated; `had` tells whether it was found with children.
+    fn verdict(&self, place: Place, had: bool, chain: Children<'_>) -> Verdict
+        ensures { (found : Chain) → had ≡ not (is_end found) → result ≡ choice (by self.now) (place_of place) found (as_chain chain.entry) };
 }

@@ -1,6 +1,9 @@
 #![tactic(auto)]
 
 pub mod basis;
-pub mod look;
 pub mod perform;
 pub mod place;
+
+pub use basis::Basis;
+pub use perform::Verdict;
+pub use place::Place;

@@ -3,14 +3,14 @@ ghost use Rattle.rules.specs.Tree.{Head, Chain, below};
 ghost use Rattle.rules.specs.Tree.Chain.{link};
 ghost use Rattle.rules.specs.Removal.{wrapped_object};
 ghost use Rattle.rules.specs.Words.{Holds};
-ghost use Rattle.edit.specs.Slots.{Linked, Step};
+ghost use Rattle.edit.specs.Slots.{Linked, LinksRecord, Step};
 ghost use Rattle.shaker.specs.Verdicts.{left_of, removes};
 
 use edit::slots::{first_of, next_of, next_slot};
 use edit::{empty, lift, restate, sweep_children};
 
 /// What a rule does with a record.
-#[derive(Clone, Copy)]
+#[derive(Clone, Copy, PartialEq, Eq, Debug)]
 pub enum Verdict {
     Stays,
     Sweeps,
@@ -21,23 +21,18 @@ pub enum Verdict {
     Unwraps,
 }
 
-/// Whether the verdict removes something.
-pub fn removes(verdict: Verdict) -> bool
-    ensures { result ≡ removes verdict }
-{
-    match verdict {
-        Verdict::Stays | Verdict::Sweeps => false,
-        Verdict::Empties
-        | Verdict::Unlinks
-        | Verdict::Restates
-        | Verdict::Yields
-        | Verdict::Unwraps => true,
+impl Verdict {
+    /// Whether it removes something.
+    pub fn removes(self) -> bool
+        ensures { result ≡ removes self }
+    {
+        !matches!(self, Verdict::Stays | Verdict::Sweeps)
     }
 }
 
 /// Does what the verdict says to the record that the slot links to, and returns the slot that follows.
 pub fn perform(words: &mut [u32], slot: usize, verdict: Verdict) -> usize
-    requires { (h : Head) × (children : Chain) × (rest : Chain) × Linked words.old slot (link h children rest) }
+    requires { LinksRecord words.old slot }
     ensures { (h : Head) (children rest : Chain) → Linked words.old slot (link h children rest) → Step words.old words.new slot (link h children rest) (left_of verdict h children) result }
 {
     let n = words[slot];

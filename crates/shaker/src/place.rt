@@ -1,20 +1,18 @@
-ghost use Rattle.std.specs.Prelude.{◌≡◌, Bool, ◌||◌, ◌==◌};
+ghost use Rattle.std.specs.Prelude.{◌≡◌, ◌||◌, ◌==◌};
 ghost use Rattle.rules.specs.Removal.{at_root, place_inside, asm};
-ghost use Rattle.rules.specs.Kinds.{module_root, script_root, block, with_statement, for_statement};
-ghost use Rattle.rules.specs.Words.{tree_of, Whole};
+ghost use Rattle.records.specs.Chains.{as_chain};
 ghost use Rattle.records.specs.Reads.{head_of};
 ghost use Rattle.records.specs.KindWords.{kind_word};
 ghost use Rattle.shaker.specs.Places.{place_of};
-ghost use Rattle.shaker.specs.Treating.{entered_by, entered_first, place_below};
+ghost use Rattle.shaker.specs.Treating.{listed, passed_by, entered_by, entered_first, place_below};
 
-use crate::look::{below, first_is, first_symbol, is_end};
-use records::{Kind, Record};
+use records::{Children, Kind, Record};
 
 /// The symbol of the text 'use asm'.
 const ASM: u32 = 3;
 
 /// Where a record stands: below a Function, below a Block, in a `var`, in an Export declaration; and its parent's kind.
-#[derive(Clone, Copy)]
+#[derive(Clone, Copy, PartialEq, Eq, Debug)]
 pub struct Place {
     pub in_fn: bool,
     pub in_block_stmt: bool,
@@ -43,85 +41,68 @@ impl Place {
     {
         let kind = node.kind;
         Place {
-            in_fn: self.in_fn | kind.is(Kind::Function),
-            in_block_stmt: self.in_block_stmt | kind.is(Kind::Block),
-            in_var: kind.is(Kind::VarDeclaration) & (node.flags == 1),
-            in_export: kind.is(Kind::ExportDeclaration)
-                | (self.in_export & (kind.is(Kind::VarDeclaration) | kind.is(Kind::Declarator))),
+            in_fn: self.in_fn || kind == Kind::Function,
+            in_block_stmt: self.in_block_stmt || kind == Kind::Block,
+            in_var: kind == Kind::VarDeclaration && node.flags == 1,
+            in_export: kind == Kind::ExportDeclaration
+                || (self.in_export && (kind == Kind::VarDeclaration || kind == Kind::Declarator)),
             parent: Some(kind),
         }
     }
-}
 
-impl Place {
-    /// Whether it is in a With.
-    fn is_in_with(self) -> bool
-        ensures { result ≡ ((place_of self).parent == with_statement) }
+    /// Whether its parent is of this kind.
+    fn is_in(self, kind: Kind) -> bool
+        ensures { result ≡ ((place_of self).parent == kind_word kind) }
     {
-        match self.parent {
-            Some(kind) => kind.is(Kind::With),
-            None => false,
-        }
+        self.parent == Some(kind)
     }
 
-    /// Whether it is in a For.
-    fn is_in_for(self) -> bool
-        ensures { result ≡ ((place_of self).parent == for_statement) }
+    /// Whether the rules pass by a record for where it stands, or for a list that begins with 'use asm'; the last of its chain stands at no head of a For.
+    fn passes_by(self, kind: Kind, asm: bool, last: bool) -> bool
+        ensures { result ≡ passed_by (place_of self) (kind_word kind) asm last }
     {
-        match self.parent {
-            Some(kind) => kind.is(Kind::For),
-            None => false,
-        }
+        (self.is_in(Kind::With) && kind.is_statement())
+            || (self.is_in(Kind::For) && kind == Kind::VarDeclaration && !last)
+            || (self.in_export && kind.is_pattern())
+            || (has_list(kind) && asm)
     }
 
-    /// Whether the rules enter a record here, given whether its children begin with 'use asm' and whether it is the last of its chain.
-    fn enters(self, node: Record, asm: bool, last: bool) -> bool
-        ensures { result ≡ entered_by (place_of self) (head_of 0 node) asm last }
+    /// Whether the rules enter such a record here, given whether its children begin with 'use asm' and whether it is the last of its chain.
+    fn enters(self, kind: Kind, asm: bool, last: bool) -> bool
+        ensures { result ≡ entered_by (place_of self) (kind_word kind) asm last }
     {
-        let kind = node.kind;
-        !(kind.is(Kind::ExportDefault)
-            | (kind.is(Kind::Delete)
-                | ((self.is_in_with() & kind.is_statement())
-                    | ((self.is_in_for() & (kind.is(Kind::VarDeclaration) & !last))
-                        | ((self.in_export & kind.is_pattern()) | (has_list(kind) & asm))))))
+        !matches!(kind, Kind::ExportDefault | Kind::Delete) && !self.passes_by(kind, asm, last)
     }
 
-    /// Whether the rules enter the record that `n` leads to.
-    pub fn enters_at(self, words: &[u32], n: u32) -> bool
-        requires { Whole words.now n }
-        ensures { result ≡ entered_first (place_of self) (tree_of words.now n) }
+    /// Whether the rules enter the first record of the chain.
+    pub fn enters_at(self, chain: Children<'_>) -> bool
+        ensures { result ≡ entered_first (place_of self) (as_chain chain.entry) }
     {
-        match Record::linked(words, n) {
-            Some(node) => self.enters(node, is_asm(words, node.first), is_end(words, node.next)),
-            None => false,
-        }
+        let last = chain.after().is_end();
+        chain.first().is_some_and(|node| self.enters(node.record.kind, is_asm(node.below), last))
     }
 
-    /// The place of the children of the record that `n` leads to.
-    pub fn below(self, words: &[u32], n: u32) -> Place
-        requires { Whole words.now n }
-        ensures { place_of result ≡ place_below (place_of self) (tree_of words.now n) }
+    /// The place of the children of the chain's first record.
+    pub fn below(self, chain: Children<'_>) -> Place
+        ensures { place_of result ≡ place_below (place_of self) (as_chain chain.entry) }
     {
-        match Record::linked(words, n) {
-            Some(node) => self.inside(node),
-            None => self,
-        }
+        chain.first().map_or(self, |node| self.inside(node.record))
     }
 }
 
 /// Whether the children of such a record are a list of statements or items.
 pub fn has_list(kind: Kind) -> bool
-    ensures { result ≡ (kind_word kind == module_root || (kind_word kind == script_root || kind_word kind == block)) }
+    ensures { result ≡ listed (kind_word kind) }
 {
-    kind.is(Kind::Module) | (kind.is(Kind::Script) | kind.is(Kind::Block))
+    matches!(kind, Kind::Module | Kind::Script | Kind::Block)
 }
 
-/// Whether the list that `n` leads to begins with 'use asm'.
-fn is_asm(words: &[u32], n: u32) -> bool
-    requires { Whole words.now n }
-    ensures { result ≡ asm (tree_of words.now n) }
+/// Whether a list begins with 'use asm'.
+fn is_asm(list: Children<'_>) -> bool
+    ensures { result ≡ asm (as_chain list.entry) }
 {
-    let text = below(words, n);
-    first_is(words, n, Kind::ExpressionStatement)
-        & (first_is(words, text, Kind::Literal) & (first_symbol(words, text) == ASM))
+    let text = list.below();
+    list.first_is(Kind::ExpressionStatement)
+        && text.first_is(Kind::Literal)
+        && text.first_id().symbol == ASM
 }

@@ -5,9 +5,10 @@ use Rattle.rules.specs.Tree.{Name}
 use Rattle.rules.specs.Kinds.{member}
 use Rattle.rules.specs.Names.{same, among}
 use Rattle.rules.specs.Tables.{some_row, declared_width, read_declared}
-use Rattle.tables.specs.declared.key.Id.{Id}
+use Rattle.records.specs.declared.id.Id.{Id}
+use Rattle.records.specs.Ids.{name_of_id}
 use Rattle.tables.specs.Living.{rows, first_row}
-use Rattle.tables.specs.Matching.{name_of_id, id_keyed}
+use Rattle.tables.specs.Matching.{id_keyed}
 use Rattle.tables.proofs.Matched.{declared_read}
 
 pub member_found : (xs : List ℕ) (y k : ℕ) → k < length xs → get_or xs k 0 ≡ y → member y xs ≡ true

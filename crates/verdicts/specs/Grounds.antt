@@ -4,7 +4,6 @@
 --   by_words                  settings, judge and retain list, with the words of declared and names
 --   config_of, by_of          the code's settings, and all that its tests go by, beside what the judge means
 --   silent                    the judge of the tests that ask none
---   info_row                  a name's row as the code has it
 use Rattle.std.specs.Prelude.{ℕ, Bool, false, not, List, Some, None, Option, ◌==◌}
 use Rattle.rules.specs.Tree.{Chain, Name}
 use Rattle.rules.specs.Names.{among}
@@ -16,7 +15,6 @@ use Rattle.tables.specs.Counts.{usage_word, assign_word, entry_word, counted_wor
 use Rattle.tables.specs.Matching.{id_keyed}
 use Rattle.verdicts.specs.declared.basis.Config.{Config}
 use Rattle.verdicts.specs.declared.basis.Basis.{Basis}
-use Rattle.verdicts.specs.declared.basis.NameInfo.{NameInfo}
 
 -- a name's row by its number in the words of names; a missing one reads as a fresh one
 abbrev pub row_at : List ℕ → Name → Option ℕ → NameRow
@@ -53,7 +51,3 @@ by_of acts b = by_words (config_of b.config acts b.retain.now) b.declared.now b.
 -- the judge to whom nothing acts: what a test goes by that asks no judge
 abbrev pub silent : Chain → Bool
 silent c = false
-
--- a name's row as the code has it
-abbrev pub info_row : Name → NameInfo → NameRow
-info_row n i = record { name = n; usage = i.usage; assign = i.assign; entry = i.entry; counted = i.counted }

@@ -1,2 +1,2 @@
 pub mod Grounds
-pub mod Members
+pub mod Shaking

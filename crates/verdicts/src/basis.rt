@@ -1,14 +1,15 @@
-ghost use Rattle.std.specs.Prelude.{◌≡◌, false};
+ghost use Rattle.std.specs.Prelude.{◌≡◌};
 ghost use Rattle.rules.specs.Kinds.{member};
 ghost use Rattle.rules.specs.Names.{among};
 ghost use Rattle.rules.specs.Tables.{read_declared};
-ghost use Rattle.rules.specs.Removal.{permitted, can_drop_binding, can_drop_assignment_to};
-ghost use Rattle.tables.specs.Matching.{name_of_id};
+ghost use Rattle.rules.specs.Removal.{permitted, unused, never_read, can_drop_binding, can_drop_assignment_to};
+ghost use Rattle.records.specs.Ids.{name_of_id};
 ghost use Rattle.shaker.specs.Places.{place_of};
-ghost use Rattle.verdicts.specs.Grounds.{row_in_words, info_row, by_of, silent};
+ghost use Rattle.verdicts.specs.Grounds.{row_in_words, by_of, silent};
 
+use records::Id;
 use shaker::place::Place;
-use tables::{Declared, Id, Names, find};
+use tables::{Declared, Names, VarInfo, find};
 
 /// The settings.
 #[derive(Clone, Copy)]
@@ -26,51 +27,11 @@ pub struct Basis<'t> {
     pub names: &'t [u32],
 }
 
-/// The counts and flags of a name's row.
-#[derive(Clone, Copy)]
-struct NameInfo {
-    usage: u32,
-    assign: u32,
-    entry: bool,
-    counted: bool,
-}
-
-impl NameInfo {
-    /// A row before anything is counted.
-    fn fresh() -> NameInfo
-        ensures { result ≡ record { usage = 0; assign = 0; entry = false; counted = false } }
-    {
-        NameInfo {
-            usage: 0,
-            assign: 0,
-            entry: false,
-            counted: false,
-        }
-    }
-
-    /// A name's row in names; a missing one reads as a fresh one.
-    fn of(names: &[u32], id: Id) -> NameInfo
-        ensures { info_row (name_of_id id) result ≡ row_in_words names.now (name_of_id id) }
-    {
-        let Some(row) = find::<Names>(names, &id) else {
-            return NameInfo::fresh();
-        };
-        let Some(counts) = Names::info(names, row) else {
-            return NameInfo::fresh();
-        };
-        NameInfo {
-            usage: counts.usage,
-            assign: counts.assign,
-            entry: Names::is_entry(names, row),
-            counted: Names::is_counted(names, row),
-        }
-    }
-}
-
 /// Whether the retain list has the symbol.
 fn retained(retain: &[u32], symbol: u32) -> bool
     ensures { result ≡ member symbol retain.now }
 {
+    // A loop, since a rule of the project wants the retain list walked by one.
     for kept in retain {
         if *kept == symbol {
             return true;
@@ -99,28 +60,36 @@ impl<'t> Basis<'t> {
             }
     }
 
+    /// Whether a name's row is missing, uncounted or with counts 0.
+    fn is_unused(&self, id: Id) -> bool
+        ensures { result ≡ unused (row_in_words self.now.names.now (name_of_id id)) }
+    {
+        Names::info(self.names, id).map_or(true, |info| info.counts == VarInfo::default())
+    }
+
+    /// Whether a name was counted and nothing reads it; an entry is read from outside, except under `top_level`.
+    fn is_never_read(&self, id: Id) -> bool
+        ensures { result ≡ never_read (by_of silent self.now).config (row_in_words self.now.names.now (name_of_id id)) }
+    {
+        let top_level = self.config.top_level;
+        Names::info(self.names, id).is_some_and(|info| info.counts.usage == 0
+            && (top_level || !info.entry))
+    }
+
     /// Whether a name's declaration can go.
     pub fn can_drop_binding(&self, place: Place, is_var: bool, id: Id) -> bool
         ensures { result ≡ can_drop_binding (by_of silent self.now) (place_of place) is_var (name_of_id id) }
     {
-        if !self.permits(place, is_var) || retained(self.retain, id.symbol) {
-            return false;
-        }
-        let info = NameInfo::of(self.names, id);
-        !info.counted || (info.usage == 0 && info.assign == 0)
+        self.permits(place, is_var) && !retained(self.retain, id.symbol) && self.is_unused(id)
     }
 
     /// Whether an Assignment to a name can go. Whether it is a `var` is not looked at.
     pub fn can_drop_assignment_to(&self, place: Place, id: Id) -> bool
         ensures { result ≡ can_drop_assignment_to (by_of silent self.now) (place_of place) (name_of_id id) }
     {
-        if !self.permits(place, false)
-            || retained(self.retain, id.symbol)
-            || !is_declared(self.declared, id)
-        {
-            return false;
-        }
-        let info = NameInfo::of(self.names, id);
-        info.counted && info.usage == 0 && (self.config.top_level || !info.entry)
+        self.permits(place, false)
+            && !retained(self.retain, id.symbol)
+            && is_declared(self.declared, id)
+            && self.is_never_read(id)
     }
 }

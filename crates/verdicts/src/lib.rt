@@ -2,7 +2,6 @@
 
 pub mod basis;
 pub mod goes;
-pub mod look;
 pub mod tree_shaker;
 pub mod wraps;
 

@@ -1,0 +1,55 @@
+use Rattle.std.proofs.Common.{arith, rules}
+use Rattle.shaker.specs.Places.{place_of}
+use Rattle.removal.proofs.Treats.{asked_at, down, half_asked, half_record, passed, moved, some_record, turned, closed}
+use Rattle.removal.proofs.treat.+treating.Goals as goal
+
+pub treat-treat_record-turn-requires : goal.treat-treat_record-turn-requires
+treat-treat_record-turn-requires g t c κs within =
+    (omega (arith, c.decreases), (within, some_record _ _ _ _ _ c.requires _ _ _ c.loop-words.invariant c.loop-words-test.true))
+
+pub treat-loop-words-smaller : goal.treat-loop-words-smaller
+treat-loop-words-smaller g t c =
+    (turned _ _ _ _ _ c.requires _ _ _ c.loop-words.invariant c.loop-words-test.true _ _ _ c.treat_record-turn.ensures).1
+
+pub treat-loop-words-preserved : goal.treat-loop-words-preserved
+treat-loop-words-preserved g t c =
+    (turned _ _ _ _ _ c.requires _ _ _ c.loop-words.invariant c.loop-words-test.true _ _ _ c.treat_record-turn.ensures).0
+
+pub treat-returns : goal.treat-returns
+treat-returns g t c = record {
+  made = λ ch nested. (closed _ _ _ _ _ _ _ _ c.loop-words.invariant c.loop-words-test.false ch nested).0;
+  changed = λ ch nested. (closed _ _ _ _ _ _ _ _ c.loop-words.invariant c.loop-words-test.false ch nested).1;
+}
+
+pub treat_record-within-found-requires : goal.treat_record-within-found-requires
+treat_record-within-found-requires g t c = let a = asked_at _ _ _ _ c.requires.3 in record { whole = a.0; deep = a.1 }
+
+pub treat_record-returns-then-not-enters_at : goal.treat_record-returns-then-not-enters_at
+treat_record-returns-then-not-enters_at g t c = λ h ch rest nested.
+    passed _ _ h ch rest _ _ _ nested c.within-found.result c.within-found.ensures.words c.within-found.ensures.at
+    _ c.next_slot.ensures c.if-not-enters_at.ensures
+
+pub treat_record-treat-below-requires : goal.treat_record-treat-below-requires
+treat_record-treat-below-requires g t c κs within =
+    let below = down (g.B.Basis.by c.args.basis.now) (place_of c.args.place) _ _ _ _ _ _ c.requires.3 _ c.first_slot.ensures in
+    (omega (arith, c.decreases, c.requires.3.deep), (within, (c.requires.1, below)))
+
+pub treat_record-within-requires : goal.treat_record-within-requires
+treat_record-within-requires g t c =
+    let a = half_asked (g.B.Basis.by c.args.basis.now) (place_of c.args.place) _ _ _ _ _ _ c.requires.3
+    c.within-found.result c.within-found.ensures.words c.within-found.ensures.at
+    _ _ c.first_slot.ensures _ c.below-inside.ensures c.treat-below.ensures.made in
+    record { whole = a.0; deep = a.1 }
+
+pub treat_record-perform-requires : goal.treat_record-perform-requires
+treat_record-perform-requires g t c =
+    half_record (g.B.Basis.by c.args.basis.now) (place_of c.args.place) _ _ _ _ _ _ c.requires.3
+    c.within-found.result c.within-found.ensures.words c.within-found.ensures.at
+    _ _ c.first_slot.ensures _ c.below-inside.ensures c.treat-below.ensures.made
+
+pub treat_record-returns : goal.treat_record-returns
+treat_record-returns g t c = λ h ch rest nested.
+    moved _ _ h ch rest _ _ _ nested c.within-found.result c.within-found.ensures.words c.within-found.ensures.at
+    _ _ c.first_slot.ensures _ c.below-inside.ensures c.treat-below.ensures.made
+    _ _ _ _ _ _ c.within.result c.within.ensures.words c.within.ensures.at c.if-not-enters_at.ensures c.treat-below.ensures.changed
+    (search rules) c.verdict-verdict.ensures c.perform.ensures (search rules)
