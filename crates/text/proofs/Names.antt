@@ -1,30 +1,27 @@
--- Names and keywords: comparing bytes, and one word of ASCII. The tests of the code say of a byte at some place what the
--- definitions compute byte by byte.
-use Rattle.std.proofs.Common.{◌≡◌, ℕ, zero, suc, ◌≤◌, true, false, ◌&&◌, ltb, List, [], ◌∷◌, length, get_or, Ok, Err, IsAscii, sym, refl, ap, ◌∙◌, arith, le-ltb, lt-ltb, eq-eqb}
+-- Names: one word of ASCII. The tests of the code say of each byte what the definitions compute byte by byte.
+use Rattle.std.proofs.Common.{◌≡◌, ◌≢◌, ℕ, zero, suc, true, false, eqb, List, [], ◌∷◌, length, Ok, Err, IsAscii, refl, arith, lt-ltb, ne_eqb}
+use Rattle.std.specs.List.{list_any}
 use Rattle.text.specs.declared.fault.Problem.TheVariants.{NotText}
-use Rattle.text.specs.Split.{before}
-use Rattle.text.specs.Lines.{ascii, one_word, name_of}
-
--- one word, with no space around it
-pub one_word_so : (rest word : List ℕ) → word ≡ before 32 rest → (length word ≡ 0 → ⊥) → length word ≡ length rest → one_word rest ≡ true
-one_word_so [] word is some whole = absurd (some whole)
-one_word_so (b ∷ bs) word is some whole = eq-eqb _ _ (ap length (sym is) ∙ whole)
+use Rattle.text.specs.Lines.{ascii, name_of}
 
 -- every byte is below 128
-pub ascii_so : (bytes : List ℕ) → IsAscii bytes → ascii bytes ≡ true
+ascii_so : (bytes : List ℕ) → IsAscii bytes → ascii bytes ≡ true
 ascii_so [] all = refl
 ascii_so (b ∷ bs) all = rw (lt-ltb b 128 (all 0), ascii_so bs (λ i. all (suc i)))
 
+ascii_all : (bytes : List ℕ) → ascii bytes ≡ true → IsAscii bytes
+ascii_all [] so i = omega arith
+ascii_all (b ∷ bs) so zero = grind arith
+ascii_all (b ∷ bs) so (suc i) = let rest : ascii bs ≡ true = grind arith in ascii_all bs rest i
+
 -- some byte is not
-pub not_ascii_so : (bytes : List ℕ) (i : ℕ) → 128 ≤ get_or bytes i 0 → ascii bytes ≡ false
-not_ascii_so [] i large = absurd (omega arith)
-not_ascii_so (b ∷ bs) zero large = rw (le-ltb b 128 large)
-not_ascii_so (b ∷ bs) (suc i) large = elim (ltb b 128) as (λ t. (t && ascii bs) ≡ false) [ true ↦ not_ascii_so bs i large | false ↦ refl ]
+not_ascii_so : (bytes : List ℕ) → (IsAscii bytes → ⊥) → ascii bytes ≡ false
+not_ascii_so bytes other = grind (arith, ascii_all bytes)
 
 -- a good name
-pub name_good : (rest : List ℕ) → one_word rest ≡ true → ascii rest ≡ true → name_of rest ≡ Ok rest
-name_good rest one plain = rw (one, plain)
+pub name_good : (bytes : List ℕ) → length bytes ≢ 0 → list_any (λ b. eqb b 32) bytes ≡ false → IsAscii bytes → name_of bytes ≡ Ok bytes
+name_good bytes some one plain = rw (ne_eqb (length bytes) 0 some, one, ascii_so bytes plain)
 
 -- one word that is not ASCII
-pub name_not_text : (rest : List ℕ) → one_word rest ≡ true → ascii rest ≡ false → name_of rest ≡ Err NotText
-name_not_text rest one other = rw (one, other)
+pub name_not_text : (bytes : List ℕ) → length bytes ≢ 0 → list_any (λ b. eqb b 32) bytes ≡ false → (IsAscii bytes → ⊥) → name_of bytes ≡ Err NotText
+name_not_text bytes some one other = rw (ne_eqb (length bytes) 0 some, one, not_ascii_so bytes other)

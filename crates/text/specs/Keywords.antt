@@ -1,8 +1,10 @@
 -- Keywords: how they are written.
 --
 --   spelling      a keyword's bytes
+--   keywords      all of them
 --   known         bytes that are some keyword's
-use Rattle.std.specs.Prelude.{ℕ, Bool, ◌||◌, List, codes}
+use Rattle.std.specs.Prelude.{ℕ, Bool, List, [], ◌∷◌, codes}
+use Rattle.std.specs.List.{list_any}
 use Rattle.std.specs.Str.{bytes_eq}
 use Rattle.text.specs.declared.fault.Keyword.{Keyword}
 use Rattle.text.specs.declared.fault.Keyword.TheVariants.{Case, Set, Retain, Tables, Tree, Calls, End}
@@ -17,9 +19,10 @@ spelling Tree = codes "tree"
 spelling Calls = codes "calls"
 spelling End = codes "end"
 
+-- all keywords, in the order of a case's lines
+abbrev pub keywords : List Keyword
+keywords = Case ∷ Set ∷ Retain ∷ Tables ∷ Tree ∷ Calls ∷ End ∷ []
+
 -- bytes that are some keyword's
 abbrev pub known : List ℕ → Bool
-known word =
-    bytes_eq word (spelling Case) || bytes_eq word (spelling Set) || bytes_eq word (spelling Retain)
-    || bytes_eq word (spelling Tables) || bytes_eq word (spelling Tree) || bytes_eq word (spelling Calls)
-    || bytes_eq word (spelling End)
+known word = list_any (λ keyword. bytes_eq word (spelling keyword)) keywords

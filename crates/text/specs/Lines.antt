@@ -4,7 +4,10 @@
 --   bit, settings_of     settings: two bits, the judge's bit, the mark
 --   lengths_of           the lengths of the three tables
 --   call, calls_of       calls by their names
-use Rattle.std.specs.Prelude.{ℕ, Bool, true, false, cond, ◌&&◌, List, [], ◌∷◌, length, Ok, Err, codes, Result, ◌==◌, nat_lt}
+--   nothing_of           nothing
+use Rattle.std.specs.Prelude.{ℕ, Bool, true, false, cond, not, ◌&&◌, List, [], ◌∷◌, length, Ok, Err, codes, Result, ◌==◌}
+use Rattle.std.specs.Char.{is_ascii}
+use Rattle.std.specs.List.{list_all, list_any}
 use Rattle.std.specs.Str.{bytes_eq}
 use Rattle.text.specs.declared.fault.Problem.{Problem}
 use Rattle.text.specs.declared.fault.Problem.TheVariants.{WrongCount, NotASetting, UnknownCall, NotText}
@@ -13,18 +16,16 @@ use Rattle.text.specs.declared.case.Settings.{Settings}
 use Rattle.text.specs.declared.case.TableLengths.{TableLengths}
 use Rattle.text.specs.declared.case.Call.{Call}
 use Rattle.text.specs.declared.case.Call.TheVariants.{Begin, Pass, Reset, Repeat}
-use Rattle.text.specs.Split.{before, words, and_then, each}
+use Rattle.text.specs.Split.{words, and_then, each}
 use Rattle.text.specs.Numbers.{numbers}
 
 -- all bytes are ASCII
 abbrev pub ascii : List ℕ → Bool
-ascii [] = true
-ascii (b ∷ bs) = nat_lt b 128 && ascii bs
+ascii bytes = list_all is_ascii bytes
 
 -- bytes that are one word, with no space around it
 abbrev pub one_word : List ℕ → Bool
-one_word [] = false
-one_word (b ∷ bs) = length (before 32 (b ∷ bs)) == length (b ∷ bs)
+one_word bytes = not (length bytes == 0) && not (list_any (λ b. b == 32) bytes)
 
 -- a name: one word of ASCII
 abbrev pub name_of : List ℕ → Result (List ℕ) Problem
@@ -75,3 +76,8 @@ call word =
 -- the calls that a line has
 abbrev pub calls_of : List ℕ → Result (List Call) Problem
 calls_of rest = each call (words rest)
+
+-- nothing may stand behind the keyword
+abbrev pub nothing_of : List ℕ → Result (Unit {0}) Problem
+nothing_of [] = Ok tt
+nothing_of (b ∷ bs) = Err WrongCount

@@ -1,22 +1,19 @@
 -- Decimal numbers below 2^32, apart by spaces.
 --
---   digit, with_digit      a byte that writes a digit; a number with one more digit behind it
+--   with_digit             a number with one more digit behind it
 --   number                 what a word writes
 --   numbers                what a line of words writes
 --   written, ReadBack      numbers as they are written; reading gives them back
-use Rattle.std.specs.Prelude.{◌≡◌, ℕ, ◌+◌, ◌-◌, ◌*◌, ◌^◌, ◌<◌, Bool, cond, ◌&&◌, List, [], ◌∷◌, ◌++◌, Ok, Err, decimal, Result, nat_le, nat_lt}
+use Rattle.std.specs.Prelude.{◌≡◌, ℕ, ◌+◌, ◌-◌, ◌*◌, ◌^◌, ◌<◌, cond, List, [], ◌∷◌, ◌++◌, Ok, Err, decimal, Result, nat_lt}
+use Rattle.std.specs.Char.{is_ascii_digit}
 use Rattle.text.specs.declared.fault.Problem.{Problem}
 use Rattle.text.specs.declared.fault.Problem.TheVariants.{NotANumber, TooLarge}
 use Rattle.text.specs.Split.{and_then, words, each}
 
--- a byte is a digit, '0' to '9'
-abbrev pub digit : ℕ → Bool
-digit b = nat_le 48 b && nat_le b 57
-
 -- a number with one more digit behind it
 abbrev pub with_digit : ℕ → ℕ → Result ℕ Problem
 with_digit n b =
-    cond (digit b) (cond (nat_lt (n * 10 + (b - 48)) (2 ^ 32)) (Ok (n * 10 + (b - 48))) (Err TooLarge)) (Err NotANumber)
+    cond (is_ascii_digit b) (cond (nat_lt (n * 10 + (b - 48)) (2 ^ 32)) (Ok (n * 10 + (b - 48))) (Err TooLarge)) (Err NotANumber)
 
 -- a number with all of these digits behind it
 abbrev pub number_from : ℕ → List ℕ → Result ℕ Problem

@@ -11,7 +11,7 @@ use Rattle.std.specs.Str.{bytes_eq}
 use Rattle.text.specs.declared.fault.Keyword.{Keyword}
 use Rattle.text.specs.declared.fault.Keyword.TheVariants.{Case, Set, Retain, Tables, Tree, Calls, End}
 use Rattle.text.specs.declared.fault.Problem.{Problem}
-use Rattle.text.specs.declared.fault.Problem.TheVariants.{UnknownLine, Expected, WrongCount, EndMissing}
+use Rattle.text.specs.declared.fault.Problem.TheVariants.{UnknownLine, Expected, EndMissing}
 use Rattle.text.specs.declared.fault.TextFault.{TextFault}
 use Rattle.text.specs.declared.case.Settings.{Settings}
 use Rattle.text.specs.declared.case.TableLengths.{TableLengths}
@@ -19,7 +19,7 @@ use Rattle.text.specs.declared.case.Call.{Call}
 use Rattle.text.specs.Split.{before, behind, split, and_then}
 use Rattle.text.specs.Numbers.{numbers}
 use Rattle.text.specs.Keywords.{spelling, known}
-use Rattle.text.specs.Lines.{name_of, settings_of, lengths_of, calls_of}
+use Rattle.text.specs.Lines.{name_of, settings_of, lengths_of, calls_of, nothing_of}
 
 -- the lines still to be read, and how many were read
 pub record Left : Type 0 where
@@ -72,11 +72,6 @@ due_line due here = let from = pass_over_from false here in first_line due from.
 -- the value of the next line
 unfoldable pub read_line : {A : Type 0} → Keyword → (List ℕ → Result A Problem) → Left → Result (A × Left) TextFault
 read_line due read here = and_then (due_line due here) (λ line. at line.1 (read line.0))
-
--- nothing may stand behind the keyword
-abbrev pub nothing_of : List ℕ → Result (Unit {0}) Problem
-nothing_of [] = Ok tt
-nothing_of (b ∷ bs) = Err WrongCount
 
 -- a case as the text says it
 pub record Said : Type 0 where

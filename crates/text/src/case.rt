@@ -1,10 +1,11 @@
 // What a case is made of.
-ghost use Rattle.std.specs.Prelude.{◌≡◌, string_bytes};
-ghost use Rattle.text.specs.Gives.{Gives};
-ghost use Rattle.text.specs.Lines.{name_of, bit, settings_from, settings_of, lengths_from, lengths_of, call};
+ghost use Rattle.std.specs.Prelude.{◌≡◌, ℕ, List, string_bytes};
+ghost use Rattle.text.specs.declared.case.Settings.{Settings};
+ghost use Rattle.text.specs.declared.case.TableLengths.{TableLengths};
+ghost use Rattle.text.specs.Lines.{name_of, bit, settings_of, lengths_of, call};
 
 use crate::fault::Problem;
-use crate::words::{FromWord, SPACE, cut, read_numbers, spells};
+use crate::words::{FromLine, FromWord, SPACE, read_numbers};
 use std::alloc::Global;
 use std::str::from_utf8;
 
@@ -57,38 +58,36 @@ impl FromWord for Call {
     ghost meaning = { call };
 
     fn from_word(word: &[u8]) -> Result<Call, Problem> {
-        if spells(word, "begin") {
-            Ok(Call::Begin)
-        } else if spells(word, "pass") {
-            Ok(Call::Pass)
-        } else if spells(word, "reset") {
-            Ok(Call::Reset)
-        } else if spells(word, "repeat") {
-            Ok(Call::Repeat)
-        } else {
-            Err(Problem::UnknownCall)
+        match word {
+            b"begin" => Ok(Call::Begin),
+            b"pass" => Ok(Call::Pass),
+            b"reset" => Ok(Call::Reset),
+            b"repeat" => Ok(Call::Repeat),
+            _ => Err(Problem::UnknownCall),
         }
     }
 }
 
-// Reads a name: one word of ASCII.
-pub fn read_name(heap: Global, rest: &[u8]) -> Result<String, Problem>
-    ensures { Gives (name_of rest.now) string_bytes result }
-{
-    let (word, _) = cut(rest, SPACE);
-    if word.is_empty() || word.len() != rest.len() {
-        return Err(Problem::WrongCount);
-    }
-    if !rest.is_ascii() {
-        return Err(Problem::NotText);
-    }
-    match from_utf8(rest) {
-        Ok(name) => Ok(String::from_str(heap, name)?),
-        Err(_) => unreachable(),
+// A name: one word of ASCII.
+impl FromLine for String {
+    ghost Said = { List ℕ };
+
+    ghost meaning = { name_of };
+
+    ghost said = { string_bytes };
+
+    fn from_line(heap: Global, content: &[u8]) -> Result<String, Problem> {
+        if content.is_empty() || content.contains(&SPACE) {
+            return Err(Problem::WrongCount);
+        }
+        match from_utf8(content) {
+            Ok(name) if name.is_ascii() => Ok(String::from_str(heap, name)?),
+            _ => Err(Problem::NotText),
+        }
     }
 }
 
-// Reads a setting that is on or off.
+// Reads a setting that is on or off. By hand, since std has no `TryFrom` from a number to a bool.
 fn read_bit(n: u32) -> Result<bool, Problem>
     ensures { result ≡ bit n }
 {
@@ -99,50 +98,48 @@ fn read_bit(n: u32) -> Result<bool, Problem>
     }
 }
 
-// Reads the settings: top level, preserve imports, judge and mark.
-pub fn read_settings(heap: Global, rest: &[u8]) -> Result<Settings, Problem>
-    ensures { Gives (settings_of rest.now) (λ s. s) result }
-{
-    let numbers = read_numbers(heap, rest)?;
-    settings_from(numbers.as_slice())
+// The settings: top level, preserve imports, judge and mark.
+impl FromLine for Settings {
+    ghost Said = { Settings };
+
+    ghost meaning = { settings_of };
+
+    ghost said = { λ s. s };
+
+    fn from_line(heap: Global, content: &[u8]) -> Result<Settings, Problem> {
+        let numbers = read_numbers(heap, content)?;
+        let &[top_level, preserve_imports, cautious, unresolved] = numbers.as_slice() else {
+            return Err(Problem::WrongCount);
+        };
+        Ok(Settings {
+            top_level: read_bit(top_level)?,
+            preserve_imports: read_bit(preserve_imports)?,
+            judge: if read_bit(cautious)? {
+                Judge::Cautious
+            } else {
+                Judge::Plain { unresolved }
+            },
+        })
+    }
 }
 
-fn settings_from(numbers: &[u32]) -> Result<Settings, Problem>
-    ensures { result ≡ settings_from numbers.now }
-{
-    let [top_level, preserve_imports, cautious, unresolved] = numbers else {
-        return Err(Problem::WrongCount);
-    };
-    Ok(Settings {
-        top_level: read_bit(*top_level)?,
-        preserve_imports: read_bit(*preserve_imports)?,
-        judge: if read_bit(*cautious)? {
-            Judge::Cautious
-        } else {
-            Judge::Plain {
-                unresolved: *unresolved,
-            }
-        },
-    })
-}
+// The lengths of the tables: declared, names and edges.
+impl FromLine for TableLengths {
+    ghost Said = { TableLengths };
 
-// Reads the lengths of the tables: declared, names and edges.
-pub fn read_lengths(heap: Global, rest: &[u8]) -> Result<TableLengths, Problem>
-    ensures { Gives (lengths_of rest.now) (λ t. t) result }
-{
-    let numbers = read_numbers(heap, rest)?;
-    lengths_from(numbers.as_slice())
-}
+    ghost meaning = { lengths_of };
 
-fn lengths_from(numbers: &[u32]) -> Result<TableLengths, Problem>
-    ensures { result ≡ lengths_from numbers.now }
-{
-    match numbers {
-        [declared, names, edges] => Ok(TableLengths {
-            declared: *declared,
-            names: *names,
-            edges: *edges,
-        }),
-        _ => Err(Problem::WrongCount),
+    ghost said = { λ t. t };
+
+    fn from_line(heap: Global, content: &[u8]) -> Result<TableLengths, Problem> {
+        let numbers = read_numbers(heap, content)?;
+        let &[declared, names, edges] = numbers.as_slice() else {
+            return Err(Problem::WrongCount);
+        };
+        Ok(TableLengths {
+            declared,
+            names,
+            edges,
+        })
     }
 }

@@ -1,11 +1,12 @@
 // What can be wrong with a text of cases, and at which line.
 ghost use Rattle.std.specs.Prelude.{◌≡◌};
+ghost use Rattle.std.specs.Str.{bytes_eq};
 ghost use Rattle.text.specs.declared.fault.Problem.TheVariants.{Memory};
 ghost use Rattle.text.specs.Keywords.{spelling};
 
 use std::alloc::{AllocError, AllocFailed};
-use std::error::Error;
 use std::fmt;
+use thiserror::Error;
 
 /// The word that a line begins with.
 #[derive(Clone, Copy, PartialEq, Eq, Debug)]
@@ -20,6 +21,17 @@ pub enum Keyword {
 }
 
 impl Keyword {
+    // The keywords, in the order of a case's lines.
+    pub(crate) const ALL: [Keyword; 7] = [
+        Keyword::Case,
+        Keyword::Set,
+        Keyword::Retain,
+        Keyword::Tables,
+        Keyword::Tree,
+        Keyword::Calls,
+        Keyword::End,
+    ];
+
     /// The keyword as it is written.
     pub fn word(self) -> &'static str
         ensures { result.now ≡ spelling self }
@@ -34,40 +46,59 @@ impl Keyword {
             Keyword::End => "end",
         }
     }
+
+    // Whether the bytes are the keyword as it is written.
+    pub(crate) fn spells(self, word: &[u8]) -> bool
+        ensures { result ≡ bytes_eq word.now (spelling self) }
+    {
+        word == self.word().as_bytes()
+    }
 }
 
 /// What is wrong with a line.
-#[derive(Clone, Copy, PartialEq, Eq, Debug)]
+#[derive(Clone, Copy, PartialEq, Eq, Debug, Error)]
 pub enum Problem {
     /// It begins with no keyword.
+    #[error("the line begins with none of case, set, retain, tables, tree, calls and end")]
     UnknownLine,
     /// It begins with a keyword, and another one is due.
+    #[error("a line beginning with {0} is due here")]
     Expected(Keyword),
     /// A word is written with other bytes than digits.
+    #[error("a word is not a decimal number")]
     NotANumber,
     /// A number is 2^32 or more.
+    #[error("a number is not below 2^32")]
     TooLarge,
     /// There are more or fewer words than the line wants.
+    #[error("the line has too few or too many words")]
     WrongCount,
     /// A setting is neither 0 nor 1.
+    #[error("a setting is neither 0 nor 1")]
     NotASetting,
     /// A call is none of begin, pass, reset and repeat.
+    #[error("a call is none of begin, pass, reset and repeat")]
     UnknownCall,
     /// A name has a byte that is not ASCII.
+    #[error("the name has a byte that is not ASCII")]
     NotText,
     /// The text ended before the case did.
+    #[error("the text ends inside a case")]
     EndMissing,
     /// There was no memory to hold what was read.
+    #[error("there is no memory left")]
     Memory,
 }
 
 /// A problem with the line that has it, counted from 1.
-#[derive(Clone, Copy, PartialEq, Eq, Debug)]
+#[derive(Clone, Copy, PartialEq, Eq, Debug, Error)]
+#[error("line {line}: {problem}")]
 pub struct TextFault {
     pub line: usize,
     pub problem: Problem,
 }
 
+// By hand, as the next one: contracts name the problem that a `?` makes, and a derived `From` has no contract.
 impl From<AllocError> for Problem {
     ghost from_gives = { λ _ r. r ≡ Memory };
 
@@ -89,32 +120,3 @@ impl fmt::Display for Keyword {
         f.write_str(self.word())
     }
 }
-
-impl fmt::Display for Problem {
-    fn fmt<W: fmt::Write>(&self, f: &mut fmt::Formatter<W>) -> fmt::Result {
-        match self {
-            Problem::UnknownLine => f.write_str(
-                "the line begins with none of case, set, retain, tables, tree, calls and end",
-            ),
-            Problem::Expected(keyword) => write!(f, "a line beginning with {keyword} is due here"),
-            Problem::NotANumber => f.write_str("a word is not a decimal number"),
-            Problem::TooLarge => f.write_str("a number is not below 2^32"),
-            Problem::WrongCount => f.write_str("the line has too few or too many words"),
-            Problem::NotASetting => f.write_str("a setting is neither 0 nor 1"),
-            Problem::UnknownCall => f.write_str("a call is none of begin, pass, reset and repeat"),
-            Problem::NotText => f.write_str("the name has a byte that is not ASCII"),
-            Problem::EndMissing => f.write_str("the text ends inside a case"),
-            Problem::Memory => f.write_str("there is no memory left"),
-        }
-    }
-}
-
-impl fmt::Display for TextFault {
-    fn fmt<W: fmt::Write>(&self, f: &mut fmt::Formatter<W>) -> fmt::Result {
-        let line = self.line;
-        let problem = self.problem;
-        write!(f, "line {line}: {problem}")
-    }
-}
-
-impl Error for TextFault {}

@@ -118,10 +118,7 @@ mod tests {
 
     // The line and problem of the first case of the text.
     fn fault_of(heap: Global, text: &str) -> Option<TextFault> {
-        match Cases::new(text.as_bytes()).next_case(heap) {
-            Ok(_) => None,
-            Err(fault) => Some(fault),
-        }
+        Cases::new(text.as_bytes()).next_case(heap).err()
     }
 
     #[test]

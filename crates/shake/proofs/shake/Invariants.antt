@@ -1,6 +1,5 @@
 use Rattle.std.proofs.Common.{length}
-use Rattle.text.specs.Place.{left_of}
 use Rattle.shake.proofs.shake.Given as goal
 
 abbrev pub decreases-loop-case : goal.decreases-loop-case
-decreases-loop-case l = length (left_of l.cases).lines
+decreases-loop-case l = length l.cases.lines

@@ -1,29 +1,33 @@
-use Rattle.std.proofs.Common.{◌≡◌, ℕ, ◌+◌, ◌-◌, List, [], length, take, drop, sym, refl, ◌∙◌}
-use native.Mathlib.Nat.{sub-zero}
-use Rattle.std.proofs.lemmas.List.{take_rest}
-use Rattle.text.specs.Split.{before, behind}
-use Rattle.text.proofs.Cuts.{passed_more, found_front, found_back, passed_all_front, passed_all_back, back_shorter, splits_so}
+use Rattle.std.proofs.Common.{◌≡◌, ◌==◌, ℕ, Bool, rules, tests, sym, ◌∙◌, arith}
+use Rattle.std.specs.List.{position}
+use Rattle.std.proofs.lemmas.Grind.{common_steps}
+use Rattle.std.proofs.lemmas.Iterator.{YieldsList-from_slice}
+use Rattle.std.proofs.lemmas.Iterator.Search.{position_from_yields_List}
+use Rattle.text.proofs.Cuts.{before_found, after_found, before_none, after_none, splits_so}
 use Rattle.text.proofs.words.cut.Goals as goal
 
-pub loop-i-preserved : goal.loop-i-preserved
-loop-i-preserved c =
-    passed_more c.args.separator c.args.bytes.now c.loop-i.i _ c.loop-i-test.true refl c.if-byte-separator.false c.loop-i.invariant
+pub returns-in-Some : goal.returns-in-Some
+returns-in-Some c =
+    let separates : ℕ → Bool = λ b. b == c.args.separator in
+    let place : c.position.result ≡ position separates c.args.bytes.now =
+    position_from_yields_List separates _ _ c.position.result c.position.ensures.ran
+    (YieldsList-from_slice c.args.bytes.now cc) (λ x b q k. search (rules, tests)) in
+    record {
+      front = before_found separates c.args.bytes.now c.in-Some.i (sym c.in-Some.is ∙ place);
+      back = after_found separates c.args.bytes.now c.in-Some.i (sym c.in-Some.is ∙ place);
+      shorter = λ some. grind (arith, common_steps);
+      splits = splits_so c.args.separator c.args.bytes.now _ _ (before_found separates c.args.bytes.now c.in-Some.i (sym c.in-Some.is ∙ place)) (after_found separates c.args.bytes.now c.in-Some.i (sym c.in-Some.is ∙ place));
+    }
 
-pub returns-then-byte-separator : goal.returns-then-byte-separator
-returns-then-byte-separator c =
-    let separator : ℕ = c.args.separator in
-    let bytes : List ℕ = c.args.bytes.now in
-    let i : ℕ = c.loop-i.i in
-    let front : take (i - 0) bytes ≡ before separator bytes =
-    rw (sub-zero i) (sym (found_front separator bytes i _ c.loop-i-test.true refl c.if-byte-separator.true c.loop-i.invariant)) in
-    let back : take (length bytes - (i + 1)) (drop (i + 1) bytes) ≡ behind separator bytes =
-    take_rest bytes (i + 1) ∙ sym (found_back separator bytes i _ c.loop-i-test.true refl c.if-byte-separator.true c.loop-i.invariant) in
-    record { front = front; back = back; shorter = back_shorter separator bytes _ back; splits = splits_so separator bytes _ _ front back }
-
-pub returns : goal.returns
-returns c =
-    let separator : ℕ = c.args.separator in
-    let bytes : List ℕ = c.args.bytes.now in
-    let front : bytes ≡ before separator bytes = sym (passed_all_front separator bytes c.loop-i.i c.loop-i-test.false c.loop-i.invariant) in
-    let back : [] ≡ behind separator bytes = sym (passed_all_back separator bytes c.loop-i.i c.loop-i-test.false c.loop-i.invariant) in
-    record { front = front; back = back; shorter = back_shorter separator bytes _ back; splits = splits_so separator bytes _ _ front back }
+pub returns-in-None : goal.returns-in-None
+returns-in-None c =
+    let separates : ℕ → Bool = λ b. b == c.args.separator in
+    let place : c.position.result ≡ position separates c.args.bytes.now =
+    position_from_yields_List separates _ _ c.position.result c.position.ensures.ran
+    (YieldsList-from_slice c.args.bytes.now cc) (λ x b q k. search (rules, tests)) in
+    record {
+      front = before_none separates c.args.bytes.now (sym c.in-None.is ∙ place);
+      back = after_none separates c.args.bytes.now (sym c.in-None.is ∙ place);
+      shorter = λ some. some;
+      splits = splits_so c.args.separator c.args.bytes.now _ _ (before_none separates c.args.bytes.now (sym c.in-None.is ∙ place)) (after_none separates c.args.bytes.now (sym c.in-None.is ∙ place));
+    }
