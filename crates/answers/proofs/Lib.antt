@@ -1,2 +1,1 @@
 mod Comparing
-mod Writing

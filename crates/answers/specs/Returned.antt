@@ -1,11 +1,16 @@
 -- What a call returned, as text. The contract of its writer cites it.
 --
+--   told              a refusal
 --   refusal_text      a refused call
 --   answer_text       any call
 use Rattle.std.specs.Prelude.{ℕ, true, false, List, ◌++◌, codes, decimal}
 use Rattle.answers.specs.declared.answer.Answer.{Answer}
 use Rattle.answers.specs.declared.answer.Answer.TheVariants.{Begun, BeginRefused, Reset, ResetRefused, Passed, PassRefused, Repeated, RepeatRefused}
 use Rattle.answers.specs.declared.answer.Refusal.{Refusal}
+
+-- a refusal
+abbrev pub told : Refusal → List ℕ
+told r = codes "refused " ++ (decimal r.number ++ (codes " " ++ decimal r.«record»))
 
 -- a call that was refused
 abbrev pub refusal_text : (call : List ℕ) → Refusal → List ℕ

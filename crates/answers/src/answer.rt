@@ -1,8 +1,7 @@
-ghost use Rattle.std.specs.Prelude.{◌≡◌, ◌++◌, string_bytes, OnOk};
-ghost use Rattle.answers.specs.Returned.{refusal_text, answer_text};
+ghost use Rattle.std.specs.Prelude.{Some};
+ghost use Rattle.answers.specs.Returned.{told, answer_text};
 
-use crate::number::write_number;
-use std::alloc::{AllocError, Global};
+use std::fmt;
 
 /// Why a call was refused: the number of the refusal, and the record that it names.
 #[derive(Clone, Copy)]
@@ -24,40 +23,32 @@ pub enum Answer {
     RepeatRefused { refusal: Refusal, passes: u32 },
 }
 
-/// Writes what a call returned.
-pub fn write_answer(heap: Global, answer: Answer, out: &mut String) -> Result<(), AllocError>
-    ensures { OnOk result (string_bytes out.new ≡ string_bytes out.old ++ answer_text answer) }
-{
-    match answer {
-        Answer::Begun => out.push_str("begin ok"),
-        Answer::BeginRefused(refusal) => write_refusal(heap, "begin", refusal, out),
-        Answer::Reset => out.push_str("reset ok"),
-        Answer::ResetRefused(refusal) => write_refusal(heap, "reset", refusal, out),
-        Answer::Passed { changed: false } => out.push_str("pass ok 0"),
-        Answer::Passed { changed: true } => out.push_str("pass ok 1"),
-        Answer::PassRefused(refusal) => write_refusal(heap, "pass", refusal, out),
-        Answer::Repeated { passes, reached } => {
-            let text = format!(in heap; "repeat ok {passes} {reached}")?;
-            out.push_str(text.as_str())
-        }
-        Answer::RepeatRefused { refusal, passes } => {
-            write_refusal(heap, "repeat", refusal, out)?;
-            write_number(heap, " ", passes, out)
-        }
+impl fmt::Display for Refusal {
+    ghost output = { λ r. Some (told r) };
+
+    /// Writes that a call was refused.
+    fn fmt<W: fmt::Write>(&self, f: &mut fmt::Formatter<W>) -> fmt::Result {
+        let number = self.number;
+        let record = self.record;
+        write!(f, "refused {number} {record}")
     }
 }
 
-/// Writes that a call was refused.
-fn write_refusal(
-    heap: Global,
-    call: &str,
-    refusal: Refusal,
-    out: &mut String,
-) -> Result<(), AllocError>
-    ensures { OnOk result (string_bytes out.new ≡ string_bytes out.old ++ refusal_text call.now refusal) }
-{
-    let number = refusal.number;
-    let record = refusal.record;
-    let text = format!(in heap; "{call} refused {number} {record}")?;
-    out.push_str(text.as_str())
+impl fmt::Display for Answer {
+    ghost output = { λ a. Some (answer_text a) };
+
+    /// Writes what a call returned.
+    fn fmt<W: fmt::Write>(&self, f: &mut fmt::Formatter<W>) -> fmt::Result {
+        match self {
+            Answer::Begun => f.write_str("begin ok"),
+            Answer::BeginRefused(refusal) => write!(f, "begin {refusal}"),
+            Answer::Reset => f.write_str("reset ok"),
+            Answer::ResetRefused(refusal) => write!(f, "reset {refusal}"),
+            Answer::Passed { changed: false } => f.write_str("pass ok 0"),
+            Answer::Passed { changed: true } => f.write_str("pass ok 1"),
+            Answer::PassRefused(refusal) => write!(f, "pass {refusal}"),
+            Answer::Repeated { passes, reached } => write!(f, "repeat ok {passes} {reached}"),
+            Answer::RepeatRefused { refusal, passes } => write!(f, "repeat {refusal} {passes}"),
+        }
+    }
 }

@@ -3,11 +3,10 @@
 
 mod answer;
 mod compare;
-mod number;
 mod rows;
 mod tree;
 
-pub use answer::{Answer, Refusal, write_answer};
+pub use answer::{Answer, Refusal};
 pub use compare::{Difference, agreed};
-pub use rows::write_rows;
-pub use tree::write_tree;
+pub use rows::TableText;
+pub use tree::TreeText;

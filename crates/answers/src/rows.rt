@@ -1,38 +1,64 @@
-ghost use Rattle.std.specs.Prelude.{◌≡◌, ◌++◌, string_bytes, OnOk};
+ghost use Rattle.std.specs.Prelude.{◌≡◌, Some};
+ghost use Rattle.std.specs.Fmt.{WritesOnOk};
 ghost use Rattle.tables.specs.Living.{rows};
 ghost use Rattle.answers.specs.Lines.{words_text, row_text, rows_text};
 
-use crate::number::write_number;
-use std::alloc::{AllocError, Global};
+use std::fmt;
+use std::marker::PhantomData;
 use tables::{Row, Rows};
 
-/// Writes the rows of a table: each behind a space, its words apart by colons.
-pub fn write_rows<R: Row>(heap: Global, table: &[u32], out: &mut String) -> Result<(), AllocError>
-    ensures { OnOk result (string_bytes out.new ≡ string_bytes out.old ++ rows_text (rows R.wide table.now)) }
-{
-    for row in Rows::of::<R>(table) {
-        write_row(heap, row, out)?;
+/// A table as text: each row behind a space, its words apart by colons.
+pub struct TableText<'t, R> {
+    words: &'t [u32],
+    of: PhantomData<R>,
+}
+
+impl<R> Drop for TableText<'_, R> {
+    fn drop(self) {
+        let TableText { words: _, of: _ } = self;
     }
-    Ok(())
+}
+
+impl<'t, R> TableText<'t, R> {
+    /// The text of the table that these words are.
+    pub fn of(words: &'t [u32]) -> TableText<'t, R>
+        ensures { result.words.now ≡ words.now }
+    {
+        TableText {
+            words,
+            of: PhantomData,
+        }
+    }
+}
+
+impl<R: Row> fmt::Display for TableText<'_, R> {
+    ghost output = { λ t. Some (rows_text (rows R.wide t.words.now)) };
+
+    fn fmt<W: fmt::Write>(&self, f: &mut fmt::Formatter<W>) -> fmt::Result {
+        for row in Rows::of::<R>(self.words) {
+            write_row(row, f)?;
+        }
+        Ok(())
+    }
 }
 
 /// Writes one row.
-fn write_row(heap: Global, row: &[u32], out: &mut String) -> Result<(), AllocError>
-    ensures { OnOk result (string_bytes out.new ≡ string_bytes out.old ++ row_text row.now) }
+fn write_row<W: fmt::Write>(row: &[u32], f: &mut fmt::Formatter<W>) -> fmt::Result
+    ensures { WritesOnOk W.write_str_gives f.old result (row_text row.now) f.new }
 {
-    let [first, others @ ..] = row else {
+    let Some((first, others)) = row.split_first() else {
         return Ok(());
     };
-    write_number(heap, " ", *first, out)?;
-    write_words(heap, others, out)
+    write!(f, " {first}")?;
+    write_words(others, f)
 }
 
 /// Writes the words of a row behind its first.
-fn write_words(heap: Global, words: &[u32], out: &mut String) -> Result<(), AllocError>
-    ensures { OnOk result (string_bytes out.new ≡ string_bytes out.old ++ words_text words.now) }
+fn write_words<W: fmt::Write>(words: &[u32], f: &mut fmt::Formatter<W>) -> fmt::Result
+    ensures { WritesOnOk W.write_str_gives f.old result (words_text words.now) f.new }
 {
     for word in words {
-        write_number(heap, ":", *word, out)?;
+        write!(f, ":{word}")?;
     }
     Ok(())
 }

@@ -1,6 +1,6 @@
 -- What is known of words that the check accepts: reading from the root comes to an end, not too deep, and reaches no more
 -- records than there are.
-use Rattle.std.proofs.Common.{◌≡◌, ℕ, ◌/◌, ◌≤◌, true, List, length, refl, ap, arith}
+use Rattle.std.proofs.Common.{◌≡◌, ℕ, ◌≤◌, true, List, refl}
 use borrow.Author.Tests.{clash}
 use Rattle.rules.specs.Tree.{Chain, reached}
 use Rattle.rules.specs.Refusals.{Outcome}
@@ -29,19 +29,3 @@ pub accepted_most : (words : List ℕ) → accepts words ≡ true → reached (t
 accepted_most words is =
     let c = given (check words) is in
     rw (tree_is_read words c.0 c.1).0 (check_most words c.0 c.1)
-
--- what the check gave is accepted
-pub accepts_so : (words : List ℕ) (c : Chain) → check words ≡ fine c → accepts words ≡ true
-accepts_so words c is = ap is_fine is
-
--- a sixth of the words are the records, the reached ones among them
-pub records_so : (words : List ℕ) (count long : ℕ) → accepts words ≡ true → count ≡ reached (tree_of words 1) → long ≡ length words
-    → (long / 6 ≡ records words) × (count ≤ long / 6)
-records_so words count long is counted same =
-    let most = accepted_most words is in
-    let rooms : long / 6 ≡ records words = ap (λ n. n / 6) same in
-    (rooms, omega arith)
-
--- words that are the accepted ones lead to a chain that ends, not too deep
-pub whole_so : (words lent : List ℕ) → accepts words ≡ true → lent ≡ words → Whole lent 1 × (depth (tree_of lent 1) ≤ most_nesting)
-whole_so words lent is same = rw same (accepted_whole words is, accepted_deep words is)

@@ -3,17 +3,15 @@
 --   Outlined, outlined         a record with its nesting; the records of a chain and below in walk order
 --   line_of, lines_of          what a line of the code says; the same of several
 --   named_of, names_of         the name that a record bears, with the record; the same of several
---   under_of                   what surrounds a chain
---   declares_itself            the kinds whose records declare their names wherever they stand
-use Rattle.std.specs.Prelude.{ℕ, ◌+◌, Bool, List, [], ◌∷◌, ◌++◌}
-use Rattle.rules.specs.Kinds.{member, specifier, fn_declaration, class_declaration}
+--   Held, taken                names found so far; one more
+use Rattle.std.specs.Prelude.{ℕ, ◌+◌, List, [], ◌∷◌, ◌++◌, length, map, nat_lt, if◌then◌else◌}
+use Rattle.rules.specs.Refusals.{Outcome}
+use Rattle.rules.specs.Refusals.Outcome.{fine, refused}
 use Rattle.rules.specs.Tree.{Head, Chain}
 use Rattle.rules.specs.Tree.Chain.{end, link}
-use Rattle.rules.specs.Names as book
 use Rattle.records.specs.Reads.{head_of}
 use Rattle.outline.specs.declared.lines.OutlineLine.{OutlineLine}
 use Rattle.outline.specs.declared.declared.Named.{Named}
-use Rattle.outline.specs.declared.declared.Under.{Under}
 
 -- a record with its nesting
 pub record Outlined : Type 0 where
@@ -32,22 +30,25 @@ line_of l = record { nesting = l.nesting; head = head_of l.number l.«record» }
 
 -- the same of several
 abbrev pub lines_of : List OutlineLine → List Outlined
-lines_of [] = []
-lines_of (l ∷ ls) = line_of l ∷ lines_of ls
+lines_of = map line_of
 
 -- the name that a record bears, with the record
 abbrev pub named_of : Head → Named
-named_of h = record { symbol = h.symbol; mark = h.mark; «record» = h.number }
+named_of h = record { id = record { symbol = h.symbol; mark = h.mark }; «record» = h.number }
 
 -- the same of several
 abbrev pub names_of : List Head → List Named
-names_of [] = []
-names_of (h ∷ hs) = named_of h ∷ names_of hs
+names_of = map named_of
 
--- what surrounds a chain
-abbrev pub under_of : Under → book.Under
-under_of u = record { binding = u.binding; default = u.default }
+-- the names found so far, and how many there is room for
+pub record Held : Type 0 where
+  pub room : ℕ
+  pub names : List Named
 
--- the kinds whose records declare their names wherever they stand
-abbrev pub declares_itself : ℕ → Bool
-declares_itself k = member k (specifier ∷ fn_declaration ∷ class_declaration ∷ [])
+abbrev pub holds : (room : ℕ) → List Named → Held
+holds room names = record { room = room; names = names }
+
+-- one more name, if there is room
+abbrev pub taken : Head → Held → Outcome Held
+taken h s =
+    if nat_lt (length s.names) s.room then fine (holds s.room (s.names ++ named_of h ∷ [])) else refused 0 0

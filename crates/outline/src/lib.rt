@@ -2,6 +2,7 @@
 #![tactic(auto)]
 
 mod declared;
+mod found;
 mod lines;
 mod tree;
 

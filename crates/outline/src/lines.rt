@@ -1,13 +1,13 @@
 // The outline of a tree: its records in walk order, each with its nesting.
 ghost use Rattle.std.specs.Prelude.{◌≡◌, ◌+◌, ◌≤◌, ◌++◌, IfOk, OnOk};
-ghost use Rattle.rules.specs.Opening.{depth};
-ghost use Rattle.rules.specs.Words.{tree_of, Whole};
+ghost use Rattle.rules.specs.Words.{tree_of};
+ghost use Rattle.records.specs.Chains.{as_chain};
 ghost use Rattle.outline.specs.Outline.{outlined, lines_of};
 
 use crate::tree::CheckedTree;
-use checker::ROOT;
-use records::{Children, Record};
+use records::{Children, Kind, Record};
 use std::alloc::{AllocError, Global};
+use std::fmt;
 
 /// A record with its number and its nesting, the root's 1.
 #[derive(Clone, Copy)]
@@ -23,29 +23,56 @@ impl CheckedTree {
         ensures { IfOk result (λ v. lines_of v.items ≡ outlined 1 (tree_of self.now.words.items 1)) }
     {
         let mut lines = Vec::new(heap);
-        outline(self.words(), ROOT, 1, &mut lines)?;
+        outline(self.root(), 1, &mut lines)?;
         Ok(lines)
     }
 }
 
-// Puts the records from a link on, and those under them, behind what stands in the lines.
+// Puts the records of a chain, and those under them, behind what stands in the lines.
 fn outline(
-    words: &[u32],
-    first: u32,
+    chain: Children<'_>,
     nesting: u32,
     lines: &mut Vec<OutlineLine>,
 ) -> Result<(), AllocError>
-    requires whole { Whole words.now first }
-    requires deep { depth (tree_of words.now first) + nesting ≤ 129 }
-    ensures { OnOk result (lines_of lines.new.items ≡ lines_of lines.old.items ++ outlined nesting (tree_of words.now first)) }
+    requires { chain.left + nesting ≤ 129 }
+    ensures { OnOk result (lines_of lines.new.items ≡ lines_of lines.old.items ++ outlined nesting (as_chain chain.entry)) }
 {
-    for (number, record) in Children::of(words, first) {
+    for node in chain {
         lines.push(OutlineLine {
             nesting,
-            number,
-            record,
+            number: node.number,
+            record: node.record,
         })?;
-        outline(words, record.first, nesting + 1, lines)?;
+        outline(node.below, nesting + 1, lines)?;
     }
     Ok(())
+}
+
+impl fmt::Display for OutlineLine {
+    /// Writes the record indented by its nesting: its number, its kind, its flag, and its name or its text.
+    fn fmt<W: fmt::Write>(&self, f: &mut fmt::Formatter<W>) -> fmt::Result {
+        for _ in 1..self.nesting {
+            f.write_str("  ")?;
+        }
+        let number = self.number;
+        let Record {
+            kind,
+            flags,
+            symbol,
+            mark,
+            first: _,
+            next: _,
+        } = self.record;
+        write!(f, "{number} {kind}")?;
+        if flags == 1 {
+            f.write_str(" (flag 1)")?;
+        }
+        if symbol == 0 {
+            Ok(())
+        } else if kind == Kind::Literal {
+            write!(f, " text {symbol}")
+        } else {
+            write!(f, " {symbol}:{mark}")
+        }
+    }
 }

@@ -5,13 +5,12 @@ ghost use Rattle.rules.specs.Opening.{depth};
 ghost use Rattle.rules.specs.Refusals.Outcome.{refused};
 ghost use Rattle.rules.specs.Tree.{reached};
 ghost use Rattle.rules.specs.Words.{records, tree_of, Whole};
+ghost use Rattle.records.specs.Chains.{as_chain};
 ghost use Rattle.checker.specs.Faults.{number, place};
 ghost use Rattle.outline.specs.Accepts.{accepts};
 
 use checker::{CheckFault, check};
-
-/// How many words a record has.
-const RECORD_WORDS: usize = 6;
+use records::{Children, MOST_NESTING, RECORD_WORDS, ROOT};
 
 /// Words that the check accepted, and how many records their root reaches.
 #[derive(Drop)]
@@ -32,12 +31,21 @@ impl CheckedTree {
     }
 
     /// The words that were checked: record 1 leads to a chain that ends, nested at most 128 deep.
+    #[tactic(auto, using(crate::proofs::Accepted::accepted_whole, crate::proofs::Accepted::accepted_deep))]
     pub fn words(&self) -> &[u32]
         ensures value { result.now ≡ self.now.words.items }
         ensures whole { Whole result.now 1 }
         ensures deep { depth (tree_of result.now 1) ≤ most_nesting }
     {
         self.words.as_slice()
+    }
+
+    /// The whole tree: the chain of its root.
+    pub fn root(&self) -> Children<'_>
+        ensures chain { as_chain result ≡ tree_of self.now.words.items 1 }
+        ensures left { result.left ≡ most_nesting }
+    {
+        Children::within(self.words(), ROOT, MOST_NESTING)
     }
 
     /// How many records the root reaches.
@@ -55,6 +63,7 @@ impl CheckedTree {
     }
 
     // How many records the words have room for, the reached ones among them.
+    #[tactic(auto, using(crate::proofs::Accepted::accepted_most))]
     fn records(&self) -> usize
         ensures value { result ≡ records self.now.words.items }
         ensures bound { self.now.count ≤ result }

@@ -2,10 +2,7 @@
 // declares, or why it is refused.
 #![tactic(auto)]
 
-mod show;
-
 use outline::CheckedTree;
-use show::{Declared, Refusal, Shown};
 use std::io;
 use std::io::Read;
 use text::{Case, Cases};
@@ -44,20 +41,20 @@ fn print_case(rt: &HostRuntime, case: Case) -> io::Result<()> {
     println!(rt; "case {name}")?;
     match CheckedTree::new(tree) {
         Ok(tree) => print_tree(rt, &tree),
-        Err(fault) => rt.println(Refusal(fault)),
+        Err(fault) => rt.println(fault),
     }
 }
 
 // Prints a tree's outline, how many records it reaches, and the names that it declares.
 fn print_tree(rt: &HostRuntime, tree: &CheckedTree) -> io::Result<()> {
     for line in tree.lines(rt.alloc())? {
-        rt.println(Shown(line))?;
+        rt.println(line)?;
     }
     let reached = tree.reached();
     let unreached = tree.unreached();
     println!(rt; "{reached} records reached, {unreached} unreached")?;
     for named in tree.declared(rt.alloc())? {
-        rt.println(Declared(named))?;
+        rt.println(named)?;
     }
     Ok(())
 }

@@ -1,0 +1,69 @@
+// Names that were found, in memory that was taken before: a tree declares no more names than it has records.
+ghost use Rattle.std.specs.Prelude.{◌≡◌, ◌≤◌, vec_len, IfOk};
+ghost use Rattle.std.specs.Vec.{vec_capacity};
+
+use crate::declared::Named;
+use names::NameSink;
+use records::Record;
+use std::alloc::{AllocError, Global};
+
+/// The names found so far, and how many there is room for.
+#[derive(Drop)]
+pub(crate) struct Found {
+    names: Vec<Named>,
+    room: usize,
+    ghost reserved: { room ≤ vec_capacity names },
+}
+
+/// There is no room for a name.
+#[derive(Clone, Copy)]
+pub(crate) struct Full;
+
+impl Found {
+    ghost use Rattle.std.specs.Prelude.{[]};
+
+    /// No names yet, with room for so many.
+    pub(crate) fn with_room(heap: Global, room: usize) -> Result<Found, AllocError>
+        ensures { IfOk result (λ f. (f.room ≡ room) × (f.names.items ≡ [])) }
+    {
+        let names = Vec::with_capacity(heap, room)?;
+        Ok(Found { names, room })
+    }
+
+    /// The names that were found.
+    pub(crate) fn into_names(self) -> Vec<Named>
+        ensures { result ≡ self.names }
+    {
+        let Found { names, room: _ } = self;
+        names
+    }
+}
+
+impl NameSink for Found {
+    ghost use Rattle.std.specs.Prelude.{ℕ, List};
+    ghost use Rattle.outline.specs.Outline.{Held, holds, taken};
+
+    type Fault = Full;
+
+    ghost State = { Held };
+
+    ghost Fixed = { ℕ };
+
+    ghost held = { λ s. holds s.room s.names.items };
+
+    ghost fixed = { λ s. s.room };
+
+    ghost takes = { taken };
+
+    ghost number = { λ _. 0 };
+
+    ghost place = { λ _. 0 };
+
+    fn take(&mut self, n: u32, bearer: Record) -> Result<(), Full> {
+        if self.names.len() >= self.room {
+            return Err(Full);
+        }
+        let id = bearer.id();
+        self.names.push(Named { id, record: n }).map_err(|_| Full)
+    }
+}
