@@ -1,7 +1,6 @@
 -- What an insertion comes to, on any words. Words are their rows and what is left behind them, and a row that is put there
 -- comes next; behind it stands whatever stood behind the first free row.
-use Rattle.std.proofs.Common.{◌≡◌, ℕ, zero, suc, ◌+◌, ◌-◌, ◌*◌, ◌/◌, ◌<◌, ◌≤◌, Bool, true, false, eqb, List, [], ◌∷◌, ◌++◌, length, get_or, take, drop, Some, None, sym, ap, ◌∙◌, subst, ⊎_elim, append_assoc, append-nil, suc-mul, zero-mul, div-mul-le_self, arith, length-drop}
-use borrow.Rule.Slice.PartMut.{put_mid}
+use Rattle.std.proofs.Common.{◌≡◌, ℕ, zero, suc, ◌+◌, ◌*◌, ◌/◌, ◌<◌, ◌≤◌, Bool, true, false, eqb, List, [], ◌∷◌, ◌++◌, length, get_or, take, drop, Some, None, sym, ap, ◌∙◌, subst, ⊎_elim, append_assoc, append-nil, suc-mul, zero-mul, div-mul-le_self, arith, length-drop}
 use Rattle.std.specs.Cmp.{IsEquivalence}
 use Rattle.std.specs.List.{flat_map}
 use Rattle.std.proofs.lemmas.List.{take_at, drop-drop, take-append-drop, length-take-le, map-id}
@@ -107,15 +106,6 @@ module _ {Row : Type 0} (passes : Row → Bool) where
 other_row : {Key : Type 0} (same : Key → Key → Bool) → IsEquivalence same
     → (k other read : Key) → same k read ≡ true → same other k ≡ false → same other read ≡ false
 other_row same laws k other read at apart = laws.symm other read ∙ sym (laws.congr k read other at) ∙ laws.symm k other ∙ apart
-
--- a row that is written where the first free row begins; `s` is the width as the code has it, and `at` the place
-pub put_added : (w s at : ℕ) (row t written : List ℕ) → length row ≡ w → s ≡ w → free w t ≡ true → at ≡ used w t * w → written ≡ row
-    → put_mid at (at + s - at) t written ≡ added w row t
-put_added w s at row t written whole sw f place wrote =
-    ap (λ x. take at t ++ (x ++ drop (at + s - at) (drop at t))) wrote
-    ∙ ap (λ n. take at t ++ (row ++ drop n (drop at t))) (let q : at + s - at ≡ length row = omega arith in q)
-    ∙ ap (λ n. take n t ++ (row ++ drop (length row) (drop n t))) place
-    ∙ sym (cond-true (free w t) (put_row (used w t * w) row t) t f)
 
 -- an insertion that finds a free row writes there, one that finds none leaves all
 added_put : (w : ℕ) (row t u : List ℕ) → u ≡ added w row t → free w t ≡ true → u ≡ put_row (used w t * w) row t
