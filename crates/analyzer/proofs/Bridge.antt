@@ -6,9 +6,8 @@ use Rattle.std.proofs.Math.Bool.{or-false}
 use Rattle.std.proofs.Common.{◌≡◌, Bool, true, false, ◌&&◌, ◌||◌, eqb, List, [], ◌∷◌, ◌++◌, length, sym, refl, ap, ◌∙◌, append_assoc, arith}
 use Rattle.std.proofs.lemmas.Bool.{ne_eqb}
 use Rattle.rules.specs.Tree.{Head, Chain, Name, ◌is◌, name_of, unnumbered_head}
-use Rattle.rules.specs.Tree.Chain.{end, link}
 use Rattle.rules.specs.Kinds.{fn_declaration, class_declaration, function, arrow, arguments_symbol}
-use Rattle.rules.specs.Names.{among, names_of, distinct, keep, bound, declared_below, exported}
+use Rattle.rules.specs.Names.{among, names_of, distinct, bound, declared_below}
 use Rattle.rules.specs.Counting.{Event, unheld, refer, Found, nothing, ◌followed_by◌, Around, holders, put, reference, reading, writing, readings, marks, named_here, opens, leave, inside}
 use Rattle.rules.specs.Counting as book
 use Rattle.rules.specs.Refusals.{Outcome, and_then}

@@ -10,7 +10,7 @@
 --   statement_by, .. , visited_by             a record of each sort, of any, given the walk of its children
 --   walk                                      a chain
 --   visited                                   a record, its children walked
-use Rattle.std.specs.Prelude.{◌≡◌, ℕ, ◌+◌, ◌≤◌, Bool, true, false, ◌&&◌, ◌||◌, List, [], length, Result, MatchResult, ◌==◌, if◌then◌else◌}
+use Rattle.std.specs.Prelude.{ℕ, Bool, true, false, ◌&&◌, ◌||◌, List, [], length, Result, ◌==◌, if◌then◌else◌}
 use Rattle.rules.specs.Tree.{Head, Chain, ◌is◌, name_of, unnumbered_head}
 use Rattle.rules.specs.Tree.Chain.{end, link}
 use Rattle.rules.specs.Kinds.{export_declaration, export_name, function, class_body, identifier, arrow, call_expression, name_pattern, property_name, expression, pattern, class_member}
@@ -18,7 +18,7 @@ use Rattle.rules.specs.Names.{among, names_of, distinct, bound, declared_below, 
 use Rattle.rules.specs.Counting.{marks, calls_eval}
 use Rattle.rules.specs.Counting as book
 use Rattle.rules.specs.Refusals.{Outcome, and_then, Says}
-use Rattle.rules.specs.Refusals.Outcome.{fine, refused}
+use Rattle.rules.specs.Refusals.Outcome.{fine}
 use Rattle.names.specs.Sinks.{each}
 use Rattle.records.specs.declared.id.Id.{Id}
 use Rattle.data.specs.Events.{Tables, tables, entered}

@@ -1,5 +1,5 @@
 -- The record that comes next is the first of what is left of the chain.
-use Rattle.std.proofs.Common.{rules, arith}
+use Rattle.std.proofs.Common.{rules}
 use Rattle.analyzer.specs.Walk.{walk}
 use Rattle.analyzer.proofs.Walks.{walk_on}
 use Rattle.analyzer.proofs.analyzer.Analyzer.+visit.Goals as goal

@@ -1,4 +1,4 @@
-use Rattle.std.proofs.Common.{arith, rules}
+use Rattle.std.proofs.Common.{rules}
 use Rattle.analyzer.specs.Walk.{referred}
 use Rattle.analyzer.proofs.Paths.{part}
 use Rattle.analyzer.proofs.analyzer.Analyzer.reference.Goals as goal
