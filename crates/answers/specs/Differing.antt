@@ -3,7 +3,7 @@
 --   is_line_feed, line_around      the end of a line; the line that a place of a text is in
 --   shared                         how many bytes two texts begin with alike
 --   Differs                        the first line that differs
-use Rattle.std.specs.Prelude.{◌≡◌, ℕ, ◌<◌, Bool, List, ◌++◌, length, take, drop, count_by, ◌≢◌, ◌==◌, slice_get}
+use Rattle.std.specs.Prelude.{◌≡◌, ℕ, Bool, List, ◌++◌, take, drop, count_by, ◌≢◌, ◌==◌, slice_get}
 use Rattle.std.specs.List.{after_last, before_first, prefix_len, zip}
 use Rattle.answers.specs.declared.compare.Difference.{Difference}
 

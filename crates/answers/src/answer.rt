@@ -1,8 +1,13 @@
-ghost use Rattle.std.specs.Prelude.{Some};
+ghost use Rattle.std.specs.Prelude.{◌≡◌, Some};
+ghost use Rattle.checker.specs.Faults as checks;
+ghost use Rattle.tables.specs.Faults as fills;
 ghost use Rattle.answers.specs.Returned.{told, answer_text};
 
+use checker::CheckFault;
 use std::fmt;
+use tables::TableFault;
 
+// Any number may be told, also one that no fault has: an enum would ask more of who tells it.
 /// Why a call was refused: the number of the refusal, and the record that it names.
 #[derive(Clone, Copy)]
 pub struct Refusal {
@@ -21,6 +26,32 @@ pub enum Answer {
     PassRefused(Refusal),
     Repeated { passes: u32, reached: u32 },
     RepeatRefused { refusal: Refusal, passes: u32 },
+}
+
+impl From<CheckFault> for Refusal {
+    ghost from_gives = { λ e r. r ≡ record { number = checks.number e; «record» = checks.place e } };
+
+    /// The check refused the tree.
+    fn from(fault: CheckFault) -> Refusal {
+        Refusal {
+            number: fault.number(),
+            record: fault.place(),
+        }
+    }
+}
+
+impl From<TableFault> for Refusal {
+    ghost from_gives = { λ e r. r ≡ record { number = fills.number e; «record» = fills.place e } };
+
+    /// A table was full.
+    fn from(fault: TableFault) -> Refusal {
+        let (number, record) = match fault {
+            TableFault::Declared(at) => (5, at),
+            TableFault::Names(at) => (6, at),
+            TableFault::Edges(at) => (7, at),
+        };
+        Refusal { number, record }
+    }
 }
 
 impl fmt::Display for Refusal {

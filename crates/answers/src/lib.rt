@@ -10,3 +10,6 @@ pub use answer::{Answer, Refusal};
 pub use compare::{Difference, agreed};
 pub use rows::TableText;
 pub use tree::TreeText;
+
+#[cfg(test)]
+mod tests;

@@ -32,10 +32,10 @@ impl<'t, R> TableText<'t, R> {
 }
 
 impl<R: Row> fmt::Display for TableText<'_, R> {
-    ghost output = { λ t. Some (rows_text (rows R.wide t.words.now)) };
+    ghost output = { λ t. Some (rows_text (rows R.WIDTH t.words.now)) };
 
     fn fmt<W: fmt::Write>(&self, f: &mut fmt::Formatter<W>) -> fmt::Result {
-        for row in Rows::of::<R>(self.words) {
+        for row in Rows::<R>::of(self.words) {
             write_row(row, f)?;
         }
         Ok(())

@@ -6,6 +6,7 @@ use records::write::{set_first, set_next};
 /// How many words a written tree may have.
 pub const ROOM: usize = 96;
 
+// A test hands in no memory for a Vec, so the open records stand in an array.
 /// The tree written so far: the record that is being written, and those above it and itself by their depth.
 #[derive(Drop)]
 pub struct Written {

@@ -1,5 +1,5 @@
 -- The turns of the loop along a chain whose records stay or give way, and what they do for `sweep` and for `gather`.
-use denote.Ref.{Bor}
+use Rattle.std.specs.Borrow.{Bor}
 use Rattle.std.specs.Prelude.{Option, Some, None}
 use Rattle.std.proofs.Common.{◌≡◌, ℕ, ◌<◌, false, List, length, get_or, sym, ap, ◌∙◌, subst}
 use Rattle.rules.specs.Tree.{Head, Chain, is_end}

@@ -1,5 +1,4 @@
 -- Whatever writes what is left of the chain has written the whole.
-use denote.Ref.{Bor}
 use Rattle.std.proofs.Common.{◌≡◌}
 use Rattle.std.specs.Fmt.{HasWritten, IsPlainFormatter}
 use Rattle.records.specs.Chains.{as_chain}
