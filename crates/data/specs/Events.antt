@@ -2,6 +2,7 @@
 -- The contracts of what counts it cite it.
 --
 --   Placed, placed_at, told           a row and the words of its table; an answer of a table as the book's outcome
+--   row_placed                        the row with a key
 --   name_placed, edge_placed          the row of a name, of an edge
 --   Tables, tables                    the words of names and edges
 --   joined, joined_all                the edge from a holder to a name; those from all holders
@@ -10,8 +11,9 @@ use Rattle.std.specs.Prelude.{ℕ, Bool, List, [], ◌∷◌, Ok, Err, Result, i
 use Rattle.rules.specs.Refusals.{Outcome, and_then}
 use Rattle.rules.specs.Refusals.Outcome.{fine, refused}
 use Rattle.rules.specs.Tables.{names_width, edges_width, fresh}
-use Rattle.tables.specs.declared.key.Id.{Id}
-use Rattle.tables.specs.declared.key.Edge.{Edge}
+use Rattle.records.specs.declared.id.Id.{Id}
+use Rattle.records.specs.Ids.{name_of_id}
+use Rattle.tables.specs.declared.edge_row.Edge.{Edge}
 use Rattle.tables.specs.declared.fault.TableFault.{TableFault}
 use Rattle.tables.specs.declared.fault.TableFault.TheVariants.{Names, Edges}
 use Rattle.tables.specs.Counts.{more_counts, with_entry, with_counted}
@@ -19,7 +21,7 @@ use Rattle.tables.specs.Faults.{number, place}
 use Rattle.tables.specs.Held.{changed}
 use Rattle.tables.specs.Inserting.{answered, placed}
 use Rattle.tables.specs.Living.{rows, first_row}
-use Rattle.tables.specs.Matching.{id_keyed, ends_keyed, name_words, ends_words, name_of_id}
+use Rattle.tables.specs.Matching.{id_keyed, ends_keyed, name_words, ends_words}
 
 -- a row and the words of its table
 pub record Placed : Type 0 where
@@ -34,17 +36,19 @@ abbrev pub told : Result ℕ TableFault → List ℕ → Outcome Placed
 told (Ok row) words = fine (placed_at row words)
 told (Err fault) words = refused (number fault) (place fault)
 
+-- the row with a key, which gets these words if it is not there
+abbrev pub row_placed : (List ℕ → Bool) → (width : ℕ) → TableFault → (new : List ℕ) → List ℕ → Outcome Placed
+row_placed has_key width full new words =
+    let row = first_row has_key (rows width words) in
+    told (answered width full words row) (placed width new words row)
+
 -- the row of a name, which the record `at` needs
 unfoldable pub name_placed : Id → (at : ℕ) → List ℕ → Outcome Placed
-name_placed id at words =
-    let row = first_row (id_keyed id) (rows names_width words) in
-    told (answered names_width (Names at) words row) (placed names_width (name_words (fresh (name_of_id id))) words row)
+name_placed id at words = row_placed (id_keyed id) names_width (Names at) (name_words (fresh (name_of_id id))) words
 
 -- the row of an edge
 unfoldable pub edge_placed : Edge → (at : ℕ) → List ℕ → Outcome Placed
-edge_placed edge at words =
-    let row = first_row (ends_keyed edge) (rows edges_width words) in
-    told (answered edges_width (Edges at) words row) (placed edges_width (ends_words edge) words row)
+edge_placed edge at words = row_placed (ends_keyed edge) edges_width (Edges at) (ends_words edge) words
 
 -- the words of names and edges
 pub record Tables : Type 0 where

@@ -8,7 +8,7 @@ use Rattle.rules.specs.Refusals.{Outcome, and_then}
 use Rattle.rules.specs.Refusals.Outcome.{fine}
 use Rattle.rules.specs.Counting.{Event}
 use Rattle.rules.specs.Tables.{reads, writes}
-use Rattle.tables.specs.declared.key.Id.{Id}
+use Rattle.records.specs.declared.id.Id.{Id}
 use Rattle.data.specs.Events.{Tables, entered}
 
 -- a name as a key

@@ -1,5 +1,7 @@
 #![tactic(auto)]
 
+pub mod data;
 pub mod event;
 
-pub use event::{add, count_name};
+pub use data::Data;
+pub use event::{Event, count_name};

@@ -1,10 +1,10 @@
 -- What an insertion comes to, on any words. Words are their rows and what is left behind them, and a row that is put there
 -- comes next; behind it stands whatever stood behind the first free row.
-use Rattle.std.proofs.Common.{◌≡◌, ℕ, zero, suc, ◌+◌, ◌-◌, ◌*◌, ◌/◌, ◌<◌, ◌≤◌, Bool, true, false, eqb, List, [], ◌∷◌, ◌++◌, length, get_or, take, drop, Some, None, sym, ap, ◌∙◌, subst, ⊎_elim, append_assoc, append-nil, suc-mul, zero-mul, div-mul-le_self, arith, length-drop}
-use borrow.Rule.Slice.PartMut.{put_mid}
+use Rattle.std.proofs.Common.{◌≡◌, ℕ, zero, suc, ◌+◌, ◌*◌, ◌/◌, ◌<◌, ◌≤◌, Bool, true, false, eqb, List, [], ◌∷◌, ◌++◌, length, get_or, take, drop, Some, None, sym, ap, ◌∙◌, subst, ⊎_elim, append_assoc, append-nil, suc-mul, zero-mul, div-mul-le_self, arith, length-drop}
+use Rattle.std.specs.Cmp.{IsEquivalence}
 use Rattle.std.specs.List.{flat_map}
 use Rattle.std.proofs.lemmas.List.{take_at, drop-drop, take-append-drop, length-take-le, map-id}
-use Rattle.std.proofs.lemmas.Bool.{cond-true, cond-false, cases_Bool, eqb-false, ltb-true, both_ways, cases_eq}
+use Rattle.std.proofs.lemmas.Bool.{cond-true, cond-false, cases_Bool, eqb-false, ltb-true, cases_eq}
 use Rattle.tables.specs.Living.{cut, before_zero, rows, used, free, behind, keyed, first_from, first_row, put_row, added}
 use Rattle.tables.specs.Held.{Proper, Holds}
 use Rattle.tables.specs.Inserting.{ComesAlive, FoundThere, OthersStay, HoldsMore}
@@ -103,23 +103,9 @@ module _ {Row : Type 0} (passes : Row → Bool) where
       (cases_Bool (passes x))
 
 -- a key that differs from another differs from a row with that key
-other_row : {Key : Type 0} (same : Key → Key → Bool) → ((x y : Key) → same x y ≡ same y x)
-    → ((x y z : Key) → same x y ≡ true → same y z ≡ true → same x z ≡ true)
+other_row : {Key : Type 0} (same : Key → Key → Bool) → IsEquivalence same
     → (k other read : Key) → same k read ≡ true → same other k ≡ false → same other read ≡ false
-other_row same symmetric transitive k other read at apart =
-    ⊎_elim
-    (λ (b : same other read ≡ true). absurd (both_ways (same other k) apart (transitive other read k b (symmetric read k ∙ at))))
-    (λ (b : same other read ≡ false). b)
-    (cases_Bool (same other read))
-
--- a row that is written where the first free row begins; `s` is the width as the code has it, and `at` the place
-pub put_added : (w s at : ℕ) (row t written : List ℕ) → length row ≡ w → s ≡ w → free w t ≡ true → at ≡ used w t * w → written ≡ row
-    → put_mid at (at + s - at) t written ≡ added w row t
-put_added w s at row t written whole sw f place wrote =
-    ap (λ x. take at t ++ (x ++ drop (at + s - at) (drop at t))) wrote
-    ∙ ap (λ n. take at t ++ (row ++ drop n (drop at t))) (let q : at + s - at ≡ length row = omega arith in q)
-    ∙ ap (λ n. take n t ++ (row ++ drop (length row) (drop n t))) place
-    ∙ sym (cond-true (free w t) (put_row (used w t * w) row t) t f)
+other_row same laws k other read at apart = laws.symm other read ∙ sym (laws.congr k read other at) ∙ laws.symm k other ∙ apart
 
 -- an insertion that finds a free row writes there, one that finds none leaves all
 added_put : (w : ℕ) (row t u : List ℕ) → u ≡ added w row t → free w t ≡ true → u ≡ put_row (used w t * w) row t
@@ -139,9 +125,8 @@ module _ {Key : Type 0} (same : Key → Key → Bool) (key_of : List ℕ → Key
       ∙ first_next (keyed same key_of k) 0 (rows w t) (rows w (behind w t)) row none reads
       ∙ ap Some (let q : 0 + used w t + 1 ≡ used w t + 1 = omega arith in q)
 
-  pub others_stay : ((x y : Key) → same x y ≡ same y x) → ((x y z : Key) → same x y ≡ true → same y z ≡ true → same x z ≡ true)
-      → OthersStay same key_of k w t u
-  others_stay symmetric transitive nothing other apart =
+  pub others_stay : IsEquivalence same → OthersStay same key_of k w t u
+  others_stay laws nothing other apart =
       let passes = keyed same key_of other in
       ⊎_elim
       (λ (f : free w t ≡ true).
@@ -150,7 +135,7 @@ module _ {Key : Type 0} (same : Key → Key → Bool) (key_of : List ℕ → Key
       (λ (z : get_or row 0 0 ≡ 0). ap (first_row passes) (put_dead w row t some whole z))
       (λ (z : get_or row 0 0 ≡ 0 → ⊥).
       ap (first_row passes) (put_alive w row t some whole (omega arith) ∙ ap (λ x. rows w t ++ (row ∷ x)) nothing)
-      ∙ first_same passes 0 (rows w t) row (other_row same symmetric transitive k other (key_of row) reads apart))
+      ∙ first_same passes 0 (rows w t) row (other_row same laws k other (key_of row) reads apart))
       (cases_eq (get_or row 0 0) 0))
       (λ (f : free w t ≡ false). ap (λ x. first_row passes (rows w x)) (added_same w row t u words f))
       (cases_Bool (free w t))

@@ -4,10 +4,11 @@ use lib.ListN.{length-replicate}
 use lib.Seq.{drop-append-add, drop-append_seam}
 use Rattle.std.proofs.lemmas.Bool.{cond-true, cond-false, cases_Bool, ltb-true, leb-true, and_parts}
 use Rattle.rules.specs.Calls.{zeroed}
+use Rattle.tables.specs.declared.name_row.Flag.{Flag}
 use Rattle.tables.specs.Living.{used, free, there, start_of, put_row, added}
 use Rattle.tables.specs.Inserting.{placed}
 use Rattle.tables.specs.Held.{changed}
-use Rattle.tables.specs.Counts.{more_counts, with_entry, with_counted}
+use Rattle.tables.specs.Counts.{more_counts, less_counts, with_flag}
 
 -- words of one length that are alike past the last whole row are zeroed alike
 zeroed_alike : (w : ℕ) (t u : List ℕ) → length u ≡ length t → drop (length t / w * w) u ≡ drop (length t / w * w) t → zeroed w u ≡ zeroed w t
@@ -101,11 +102,11 @@ changed_zeroed w n to t u long e =
 pub more_counts_long : (usage assign : ℕ) (row : List ℕ) → length (more_counts usage assign row) ≡ length row
 more_counts_long usage assign row = simp length-set
 
-pub with_entry_long : (row : List ℕ) → length (with_entry row) ≡ length row
-with_entry_long row = simp length-set
+pub less_counts_long : (usage assign : ℕ) (row : List ℕ) → length (less_counts usage assign row) ≡ length row
+less_counts_long usage assign row = simp length-set
 
-pub with_counted_long : (row : List ℕ) → length (with_counted row) ≡ length row
-with_counted_long row = simp length-set
+pub with_flag_long : (flag : Flag) (row : List ℕ) → length (with_flag flag row) ≡ length row
+with_flag_long flag row = simp length-set
 
 -- zeroing what is zeroed leaves it
 pub zeroed_twice : (w : ℕ) (t : List ℕ) → zeroed w (zeroed w t) ≡ zeroed w t

@@ -8,6 +8,12 @@ use Rattle.tables.specs.Held.{Proper, Holds, changed}
 use Rattle.tables.specs.Counts.{row_word}
 use Rattle.tables.proofs.Holding.{zeros, table_form, holds_form, holds_length}
 
+-- a change keeps the number of rows
+pub length_change : {Row : Type 0} (rs : List Row) (k : ℕ) (to : Row → Row) → length (change_nth k to rs) ≡ length rs
+length_change [] k to = refl
+length_change (x ∷ rs) zero to = refl
+length_change (x ∷ rs) (suc k) to = ap suc (length_change rs k to)
+
 module _ {Row : Type 0} (w : ℕ) (in_words : Row → List ℕ) where
   -- a word of a row
   word_joined : (rs : List Row) (k i : ℕ) (t : List ℕ) (r : Row) → Proper w in_words rs → nth k rs ≡ Some r → i < w
@@ -32,11 +38,6 @@ module _ {Row : Type 0} (w : ℕ) (in_words : Row → List ℕ) where
   nth_below [] k r e = let z : ◌≡◌ {A = ℕ} 0 1 = cc in absurd (omega arith)
   nth_below (x ∷ rs) zero r e = omega arith
   nth_below (x ∷ rs) (suc k) r e = let h = nth_below rs k r e in omega arith
-
-  length_change : (rs : List Row) (k : ℕ) (to : Row → Row) → length (change_nth k to rs) ≡ length rs
-  length_change [] k to = refl
-  length_change (x ∷ rs) zero to = refl
-  length_change (x ∷ rs) (suc k) to = ap suc (length_change rs k to)
 
   -- a change of rows and the same change of their words, which keeps their number and the first
   module _ (change : List ℕ → List ℕ) (to : Row → Row)

@@ -1,6 +1,6 @@
 -- The rows of words that begin with a whole row, and of words too short for one.
 -- Every other fact on rows follows from these three: a loop takes row after row off the front, and a table is built row by row.
-use Rattle.std.proofs.Common.{◌≡◌, ℕ, zero, suc, ◌+◌, ◌-◌, ◌*◌, ◌/◌, ◌<◌, ◌≤◌, true, eqb, ltb, leb, ◌⊎◌, List, [], ◌∷◌, ◌++◌, length, get_or, take, drop, sym, refl, ap, ◌∙◌, inl, inr, ⊎_elim, suc-mul, div-le_self, div-mul-le_self, add-one, arith}
+use Rattle.std.proofs.Common.{◌≡◌, ℕ, zero, suc, ◌+◌, ◌-◌, ◌*◌, ◌/◌, ◌<◌, ◌≤◌, true, eqb, ltb, leb, ◌⊎◌, List, [], ◌∷◌, ◌++◌, length, get_or, take, drop, sym, refl, ap, ap₂, ◌∙◌, inl, inr, ⊎_elim, suc-mul, div-le_self, div-mul-le_self, add-one, arith}
 use native.Mathlib.Nat.{add-div_left, div-eq_of_lt}
 use Rattle.std.proofs.lemmas.Nat.{mul-le}
 use Rattle.std.proofs.lemmas.List.{take_at, drop_at, length-append, take-append-drop, length-take-le, get_or-take}
@@ -71,13 +71,20 @@ rows_none w t z (inr h) =
     ∙ rows_end w (take w t) (drop w t) z (length-take-le w t s) (get_or-take w t 0 0 z ∙ h))
     (cases_lt (length t) w)
 
--- words split behind their first row
-pub rows_split : (w : ℕ) (t r u : List ℕ) → 0 < w → w ≤ length t → (get_or t 0 0 ≡ 0 → ⊥) → r ≡ take w t → u ≡ drop w t → rows w t ≡ r ∷ rows w u
-rows_split w t r u z s h p q =
-    let g = get_or-take w t 0 0 z in
-    ap (rows w) (sym (take-append-drop w t))
-    ∙ rows_cons w (take w t) (drop w t) z (length-take-le w t s) (omega arith)
-    ∙ ap (λ x. x ∷ rows w (drop w t)) (sym p) ∙ ap (λ x. r ∷ rows w x) (sym q)
+-- words whose first w are r: they have no rows if it begins with 0, and else it is their first row; `s` is the width as the code has it
+module _ (w s : ℕ) (t r : List ℕ) (some : 0 < w) (is : s ≡ w) (front : r ≡ take s t) where
+  first_word : get_or t 0 0 ≡ get_or r 0 0
+  first_word = sym (get_or-take s t 0 0 (omega arith)) ∙ ap (λ x. get_or x 0 0) (sym front)
+
+  pub rows_ended : get_or r 0 0 ≡ 0 → rows w t ≡ []
+  rows_ended none = rows_none w t some (inr (first_word ∙ none))
+
+  pub rows_split : (u : List ℕ) → s ≤ length t → (get_or r 0 0 ≡ 0 → ⊥) → u ≡ drop s t → (rows w t ≡ r ∷ rows w u) × (length r ≡ w)
+  rows_split u room begins back =
+      let long : length r ≡ w = ap length front ∙ length-take-le s t room ∙ is in (
+        ap (rows w) (sym (take-append-drop s t) ∙ ap₂ ◌++◌ (sym front) (sym back)) ∙ rows_cons w r u some long (omega arith),
+        long,
+      )
 
 -- a whole row lies within the words; `s` is the width as the code has it
 pub row_fits : (w s n : ℕ) (t : List ℕ) → s ≡ w → 0 < n → n ≤ length t / s → (n - 1) * s + s ≤ length t

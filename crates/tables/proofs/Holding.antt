@@ -4,6 +4,7 @@ use Rattle.std.proofs.Common.{◌≡◌, ℕ, zero, suc, ◌-◌, ◌*◌, ◌/�
 use native.Mathlib.Nat.{mul-sub, lt-div-mul-add}
 use Rattle.std.specs.List.{flat_map}
 use Rattle.std.proofs.lemmas.Nat.{mul-le}
+use Rattle.std.proofs.lemmas.Grind.{flat_map-append}
 use Rattle.std.proofs.lemmas.List.{length-append, length-replicate, length-map, take_at, drop_at, drop-drop, drop-replicate, drop-append-le}
 use Rattle.rules.specs.Tables.{table}
 use Rattle.rules.specs.Calls.{zeroed}
@@ -55,8 +56,7 @@ module _ {Row : Type 0} (w : ℕ) (in_words : Row → List ℕ) (some : 0 < w) w
       ∙ ap (λ x. in_words r ∷ x) (joined_rows rs t p.2)
 
   joined_push : (rs : List Row) (r : Row) → flat_map in_words (rs ++ (r ∷ [])) ≡ flat_map in_words rs ++ in_words r
-  joined_push [] r = append-nil (in_words r)
-  joined_push (x ∷ rs) r = ap (λ y. in_words x ++ y) (joined_push rs r) ∙ sym (append_assoc (in_words x) (flat_map in_words rs) (in_words r))
+  joined_push rs r = flat_map-append in_words rs (r ∷ []) ∙ ap (λ x. flat_map in_words rs ++ x) (append-nil (in_words r))
 
   proper_push : (rs : List Row) (r : Row) → Proper w in_words rs → length (in_words r) ≡ w → 0 < get_or (in_words r) 0 0 → Proper w in_words (rs ++ (r ∷ []))
   proper_push [] r p l f = (l, f, tt)

@@ -1,4 +1,5 @@
 pub mod Cutting
+pub mod Finding
 pub mod Holding
 pub mod Adding
 pub mod Changing

@@ -10,17 +10,18 @@ use Rattle.rules.specs.Refusals.{declared_full, names_full, edges_full}
 use Rattle.rules.specs.Refusals.Outcome.{fine, refused}
 use Rattle.rules.specs.Names.{same}
 use Rattle.rules.specs.Tables.{NameRow, EdgeRow, some_row, need, change, fresh, row_of, edge_of, bit, row_number, declared_width, names_width, edges_width, declared_in_words, names_in_words, edges_in_words, table, read_declared}
+use Rattle.records.specs.declared.id.Id.{Id}
+use Rattle.records.specs.Ids.{name_of_id}
 use Rattle.tables.specs.declared.fault.TableFault.{TableFault}
 use Rattle.tables.specs.declared.fault.TableFault.TheVariants.{Declared, Names, Edges}
-use Rattle.tables.specs.declared.key.Id.{Id}
-use Rattle.tables.specs.declared.key.Edge.{Edge}
+use Rattle.tables.specs.declared.edge_row.Edge.{Edge}
 use Rattle.tables.specs.Living.{rows, used, free, first_row, added, put_row, nth, change_nth}
 use Rattle.tables.specs.Faults.{number, place}
 use Rattle.tables.specs.Held.{Proper, Holds}
 use Rattle.tables.specs.Inserting.{answered, placed}
 use Rattle.tables.specs.Counts.{more_counts, less_counts, with_entry, with_counted}
-use Rattle.tables.specs.Matching.{id_words, name_words, edge_words, DeclaredHeld, NamesHeld, EdgesHeld, Named, names_of, name_of_id, id_keyed, ends_keyed, Needed, RowNeeded, Present, Known, new_edge, ends_of, ends_words, grown, shrunk, entered, marked, heavier}
-use Rattle.tables.specs.Matching.{DeclaredWords, DeclaredRead, DeclaredBack, DeclaredNeeded, NamesWords, NamesFound, NamesNumbered, NamesNeeded, NamesRead, NamesChanged, NamesChange, EdgesWords, EdgesFound, EdgesNeeded, EdgesRead, EdgesChanged, EdgesChange, EdgesStay}
+use Rattle.tables.specs.Matching.{id_words, name_words, edge_words, NamesHeld, EdgesHeld, Named, names_of, id_keyed, ends_keyed, Needed, RowNeeded, Present, Known, new_edge, ends_of, ends_words, grown, shrunk, entered, marked, heavier}
+use Rattle.tables.specs.Matching.{DeclaredWords, DeclaredRead, DeclaredBack, DeclaredNeeded, DeclaredNeed, NamesWords, NamesFound, NamesNumbered, NamesNeeded, NamesNeed, NamesRead, NamesChanged, NamesChange, EdgesWords, EdgesFound, EdgesNeeded, EdgesNeed, EdgesRead, EdgesChanged, EdgesChange, EdgesStay}
 use Rattle.tables.proofs.Cutting.{rows_none, rows_end, rows_cons}
 use Rattle.rules.proofs.SameNames.{same_refl}
 use Rattle.tables.proofs.Adding.{first_next}
@@ -146,12 +147,12 @@ declared_needed found ns words k at h first =
     (first_row (id_keyed k) (rows declared_width words))
     (ap (first_row (id_keyed k)) (holds_rows declared_width id_words (omega arith) found ns words h) ∙ first_map id_words (id_keyed k) 0 ns)
 
--- the same of the answer of `need`
-pub declared_told : (found : List ℕ) (ns : List Name) (t u : List ℕ) (k : Id) (at : ℕ) (r : Result ℕ TableFault) → DeclaredHeld found ns t → 0 < k.symbol
+-- the answer of `need`
+pub declared_told : (k : Id) (at : ℕ) (t u : List ℕ) (r : Result ℕ TableFault)
     → r ≡ answered declared_width (Declared at) t (first_row (id_keyed k) (rows declared_width t))
     → u ≡ placed declared_width (id_words (name_of_id k)) t (first_row (id_keyed k) (rows declared_width t))
-    → RowNeeded (same (name_of_id k)) (name_of_id k) declared_width id_words found declared_full at ns t u r
-declared_told found ns t u k at r h first er eu =
+    → DeclaredNeed k at t u r
+declared_told k at t u r er eu found ns first h =
     need_told (same (name_of_id k)) (name_of_id k) declared_width id_words found declared_full at ns t (omega arith) h refl first (same_refl (name_of_id k))
     (Declared at) refl refl (first_row (id_keyed k) (rows declared_width t)) (declared_needed found ns t k at h first) u r er eu
 
@@ -196,11 +197,11 @@ names_needed found rs words k at h first =
     needed (row_of (name_of_id k)) (fresh (name_of_id k)) names_width name_words found names_full at rs words (omega arith) h refl first (same_refl (name_of_id k))
     (first_row (id_keyed k) (rows names_width words)) (names_first found rs words k h)
 
-pub names_told : (found : List ℕ) (rs : List NameRow) (t u : List ℕ) (k : Id) (at : ℕ) (r : Result ℕ TableFault) → NamesHeld found rs t → 0 < k.symbol
+pub names_told : (k : Id) (at : ℕ) (t u : List ℕ) (r : Result ℕ TableFault)
     → r ≡ answered names_width (Names at) t (first_row (id_keyed k) (rows names_width t))
     → u ≡ placed names_width (name_words (fresh (name_of_id k))) t (first_row (id_keyed k) (rows names_width t))
-    → RowNeeded (row_of (name_of_id k)) (fresh (name_of_id k)) names_width name_words found names_full at rs t u r
-names_told found rs t u k at r h first er eu =
+    → NamesNeed k at t u r
+names_told k at t u r er eu found rs first h =
     need_told (row_of (name_of_id k)) (fresh (name_of_id k)) names_width name_words found names_full at rs t (omega arith) h refl first (same_refl (name_of_id k))
     (Names at) refl refl (first_row (id_keyed k) (rows names_width t)) (names_needed found rs t k at h first) u r er eu
 
@@ -271,12 +272,11 @@ edges_needed names found es words a b at k pa pb h =
     (first_row (ends_keyed (ends_of names a b)) (rows edges_width words))
     (edges_found names found es words a b k pa pb h).0
 
-pub edges_told : (names : List NameRow) (found : List ℕ) (es : List EdgeRow) (t u : List ℕ) (a b : Name) (k : Edge) (at : ℕ) (r : Result ℕ TableFault)
-    → Known names es → Present names a → Present names b → k.from ≡ row_number a names → k.to ≡ row_number b names → EdgesHeld names found es t
+pub edges_told : (k : Edge) (at : ℕ) (t u : List ℕ) (r : Result ℕ TableFault)
     → r ≡ answered edges_width (Edges at) t (first_row (ends_keyed k) (rows edges_width t))
     → u ≡ placed edges_width (ends_words k) t (first_row (ends_keyed k) (rows edges_width t))
-    → RowNeeded (edge_of a b) (new_edge a b) edges_width (edge_words names) found edges_full at es t u r
-edges_told names found es t u a b k at r known pa pb fa fb h er eu =
+    → EdgesNeed k at t u r
+edges_told k at t u r er eu names found es a b known pa pb fa fb h =
     let one : k ≡ ends_of names a b = λ i. record { from = fa i; to = fb i } in
     need_told (edge_of a b) (new_edge a b) edges_width (edge_words names) found edges_full at es t (omega arith) h refl
     (number_positive a names) (and_from (same a a) (same b b) (same_refl a) (same_refl b))

@@ -1,4 +1,3 @@
-pub mod Keys
 pub mod Living
 pub mod Walking
 pub mod Held

@@ -2,6 +2,7 @@
 --
 --   cut, before_zero, rows      the whole rows of words; rows up to the first that begins with 0; the rows of a table
 --   used, free, behind          how many rows there are; a whole row is free behind them; the words behind that one
+--   there, IsThere, start_of    a row is among the whole rows; where it begins
 --   keyed, first_row            a row has a key; the number of the first row that passes, from 1
 --   nth, change_nth             a row by its place, from 0; that row changed
 --   put_row, added              words with a row in the place of others; a table with a row after its last
@@ -36,6 +37,10 @@ behind width words = drop (used width words * width + width) words
 -- a row of this number is among the whole rows, counted from 1
 abbrev pub there : (width : ℕ) → List ℕ → (number : ℕ) → Bool
 there width words number = nat_lt 0 number && nat_le number (length words / width)
+
+-- so it is, and there are no more rows than words
+abbrev pub IsThere : (width : ℕ) → List ℕ → (number : ℕ) → Type 0
+IsThere width words number = (there width words number ≡ true) × (number ≤ length words)
 
 -- where it begins
 abbrev pub start_of : (width number : ℕ) → ℕ

@@ -2,12 +2,13 @@
 --
 --   id_words, name_words, edge_words              the words of one row
 --   DeclaredHeld, NamesHeld, EdgesHeld            a table's words are those of such rows
---   name_of_id, id_keyed, ends_keyed              a key's name; the rows with a key, as `find` looks for them
+--   id_in, ends_in, id_keyed, ends_keyed          the key of a row; the rows with a key, as `find` looks for them
 --   numbered                                      the answer of `find` in the book's words
 --   Needed                                        `find` and `insert` are the book's `need`
 --   RowNeeded                                     the answer of `need`, and what it leaves, are as the book says
 --   Present, Known                                names that have rows, and edges between such names
 --   new_edge, ends_of, ends_words                 a new edge; the rows of its names; its words by those rows
+--   DeclaredNeed, NamesNeed, EdgesNeed            so for each table
 --   grown, shrunk, entered, marked, heavier       rows with their counts and flags changed
 --   Declared.., Names.., Edges..                  statements about the three tables
 use Rattle.std.specs.Prelude.{◌≡◌, ℕ, ◌+◌, ◌-◌, ◌/◌, ◌<◌, ◌≤◌, Bool, true, false, ◌&&◌, List, [], ◌∷◌, ◌++◌, map, length, is_some, Some, None, Option, Result, MatchResult, ◌==◌, slice_index, if◌then◌else◌}
@@ -17,9 +18,10 @@ use Rattle.rules.specs.Refusals.Outcome.{fine, refused}
 use Rattle.rules.specs.Names.{same}
 use Rattle.rules.specs.Tables.{NameRow, EdgeRow, some_row, need, change, fresh, look, row_of, edge_of, bit, row_number, declared_width, names_width, edges_width, declared_in_words, names_in_words, edges_in_words, table, read_declared}
 use Rattle.rules.specs.Rings.{minus}
+use Rattle.records.specs.declared.id.Id.{Id}
+use Rattle.records.specs.Ids.{name_of_id}
 use Rattle.tables.specs.declared.fault.TableFault.{TableFault}
-use Rattle.tables.specs.declared.key.Id.{Id}
-use Rattle.tables.specs.declared.key.Edge.{Edge}
+use Rattle.tables.specs.declared.edge_row.Edge.{Edge}
 use Rattle.tables.specs.Living.{rows, used, free, there, keyed, first_row, nth, change_nth, added}
 use Rattle.tables.specs.Faults.{number, place}
 use Rattle.tables.specs.Held.{Holds, changed}
@@ -58,17 +60,21 @@ Named (n ∷ ns) = (0 < n.symbol) × Named ns
 abbrev pub names_of : List NameRow → List Name
 names_of rs = map (λ r. r.name) rs
 
--- the name that a key is
-abbrev pub name_of_id : Id → Name
-name_of_id k = record { symbol = k.symbol; mark = k.mark }
+-- the key of a row of declared or names
+abbrev pub id_in : List ℕ → Id
+id_in row = record { symbol = slice_index row 0; mark = slice_index row 1 }
+
+-- the key of a row of edges
+abbrev pub ends_in : List ℕ → Edge
+ends_in row = record { from = slice_index row 0; to = slice_index row 1 }
 
 -- the rows of declared and names with a key, as `find` looks for them
 abbrev pub id_keyed : Id → List ℕ → Bool
-id_keyed k = keyed (λ a b. (a.symbol == b.symbol) && a.mark == b.mark) (λ r. record { symbol = slice_index r 0; mark = slice_index r 1 }) k
+id_keyed k = keyed (λ a b. (a.symbol == b.symbol) && a.mark == b.mark) id_in k
 
 -- the rows of edges with a key
 abbrev pub ends_keyed : Edge → List ℕ → Bool
-ends_keyed k = keyed (λ a b. (a.from == b.from) && a.to == b.to) (λ r. record { from = slice_index r 0; to = slice_index r 1 }) k
+ends_keyed k = keyed (λ a b. (a.from == b.from) && a.to == b.to) ends_in k
 
 -- the row of a name, or none
 abbrev pub numbered : Name → List NameRow → Option ℕ
@@ -113,6 +119,25 @@ ends_words k = k.from ∷ k.to ∷ 0 ∷ 0 ∷ []
 -- the rows of two names
 abbrev pub ends_of : List NameRow → (a b : Name) → Edge
 ends_of names a b = record { from = row_number a names; to = row_number b names }
+
+-- NEED
+
+-- what `need` answers for a key, and what it leaves of the table, is as the book says: for declared, for names, and for edges beside names
+abbrev pub DeclaredNeed : Id → (at : ℕ) → (t u : List ℕ) → Result ℕ TableFault → Type 0
+DeclaredNeed id at t u r =
+    (found : List ℕ) (ns : List Name) → 0 < id.symbol → DeclaredHeld found ns t
+    → RowNeeded (same (name_of_id id)) (name_of_id id) declared_width id_words found declared_full at ns t u r
+
+abbrev pub NamesNeed : Id → (at : ℕ) → (t u : List ℕ) → Result ℕ TableFault → Type 0
+NamesNeed id at t u r =
+    (found : List ℕ) (rs : List NameRow) → 0 < id.symbol → NamesHeld found rs t
+    → RowNeeded (row_of (name_of_id id)) (fresh (name_of_id id)) names_width name_words found names_full at rs t u r
+
+abbrev pub EdgesNeed : Edge → (at : ℕ) → (t u : List ℕ) → Result ℕ TableFault → Type 0
+EdgesNeed edge at t u r =
+    (names : List NameRow) (found : List ℕ) (es : List EdgeRow) (a b : Name) → Known names es → Present names a → Present names b
+    → edge.from ≡ row_number a names → edge.to ≡ row_number b names → EdgesHeld names found es t
+    → RowNeeded (edge_of a b) (new_edge a b) edges_width (edge_words names) found edges_full at es t u r
 
 -- a row with more in its counts
 abbrev pub grown : (usage assign : ℕ) → NameRow → NameRow

@@ -1,25 +1,35 @@
-ghost use Rattle.std.specs.Prelude.{◌≡◌, ℕ, ◌<◌, ◌≤◌, true, false, not, ◌&&◌, List, [], ◌∷◌, length, IfOk, MatchOption, ◌==◌, slice_index, refl};
-ghost use Rattle.rules.specs.Refusals.{names_full};
-ghost use Rattle.rules.specs.Tables.{NameRow, fresh, row_of, names_width};
+ghost use Rattle.std.specs.Prelude.{◌≡◌, not, ◌&&◌, [], ◌∷◌, ◌==◌, refl};
+ghost use Rattle.std.proofs.Math.Nat.{zero-lt-suc};
+ghost use Rattle.std.proofs.lemmas.Bool.{and_from, eq-eqb};
+ghost use Rattle.std.proofs.Common.{lit≤};
+ghost use Rattle.rules.specs.Calls.{zeroed};
+ghost use Rattle.rules.specs.Tables.{names_width};
 ghost use Rattle.tables.specs.declared.fault.TableFault.TheVariants.{Names as table_full};
 ghost use Rattle.tables.specs.Living.{rows, there, first_row};
 ghost use Rattle.tables.specs.Held.{changed};
-ghost use Rattle.tables.specs.Inserting.{answered, placed};
-ghost use Rattle.tables.specs.Counts.{usage_word, assign_word, entry_word, counted_word, row_word, more_counts, less_counts, with_entry, with_counted};
-ghost use Rattle.tables.specs.Matching.{name_words, name_of_id, id_keyed, NamesHeld, RowNeeded};
-ghost use Rattle.tables.specs.Keys.{both_same};
-ghost use Rattle.std.proofs.Math.Nat.{zero-lt-suc};
+ghost use Rattle.tables.specs.Counts.{flag_word, row_word, with_flag, info_of};
+ghost use Rattle.tables.specs.Matching.{id_in, id_keyed, NamesNeed};
 
-use crate::counts::{VarInfo, add_counts, counts_at, subtract_counts};
+use crate::book::BookRow;
+use crate::counts::{Counted, VarInfo};
 use crate::fault::TableFault;
-use crate::key::Id;
 use crate::row::Row;
-use crate::table::{need, row_start};
+use crate::table::{find, need, row_start};
+use records::Id;
 
-/// The word of a row that says whether the name is an entry.
-const ENTRY: usize = 4;
-/// The word of a row that says whether the name was counted.
-const COUNTED: usize = 5;
+/// A flag of a row, by the word where it stands: that the name is an entry, or that it was counted.
+#[derive(Clone, Copy, PartialEq, Eq, Debug)]
+pub enum Flag {
+    Entry = 4,
+    Counted = 5,
+}
+
+/// What was counted of a name: how often it is read and written, and whether it is an entry.
+#[derive(Clone, Copy, PartialEq, Eq, Debug)]
+pub struct NameInfo {
+    pub counts: VarInfo,
+    pub entry: bool,
+}
 
 /// The table of the names and their counts. A row is symbol and mark, its key, then usage, assign, entry and counted.
 pub struct Names;
@@ -29,9 +39,9 @@ impl Row for Names {
 
     const WIDTH: usize = 6;
 
-    ghost wide = { 6 };
+    ghost WIDTH = { names_width };
 
-    ghost key_of = { λ r. record { symbol = slice_index r 0; mark = slice_index r 1 } };
+    ghost key_of = { id_in };
 
     ghost fresh = { λ k. k.symbol ∷ k.mark ∷ 0 ∷ 0 ∷ 0 ∷ 0 ∷ [] };
 
@@ -41,11 +51,7 @@ impl Row for Names {
 
     ghost whole = { λ _. refl };
 
-    ghost reads = { λ k. both_same k.symbol k.mark };
-
-    fn stride() -> usize {
-        Self::WIDTH
-    }
+    ghost reads = { λ k. and_from _ _ (eq-eqb k.symbol k.symbol refl) (eq-eqb k.mark k.mark refl) };
 
     fn key(row: &[u32]) -> Id {
         Id {
@@ -63,80 +69,48 @@ impl Row for Names {
     }
 }
 
+impl BookRow for Names {
+    ghost needed = { NamesNeed };
+
+    fn need(table: &mut [u32], key: Id, at: u32) -> Result<usize, TableFault> {
+        need::<Names>(table, key, at)
+    }
+}
+
+impl Counted for Names {
+    ghost room = { lit≤ tt };
+}
+
 impl Names {
-    /// The row of a name, put behind the last row if it is not there. `at` is the record that needs it.
-    pub fn need(names: &mut [u32], id: Id, at: u32) -> Result<usize, TableFault>
-        ensures row { result ≡ answered names_width (table_full at) names.old (first_row (id_keyed id) (rows names_width names.old)) }
-        ensures there { IfOk result (λ n. (there names_width names.new n ≡ true) × (n ≤ length names.new)) }
-        ensures words { names.new ≡ placed names_width (name_words (fresh (name_of_id id))) names.old (first_row (id_keyed id) (rows names_width names.old)) }
-        ensures book { (found : List ℕ) (rs : List NameRow) → 0 < id.symbol → NamesHeld found rs names.old → RowNeeded (row_of (name_of_id id)) (fresh (name_of_id id)) names_width name_words found names_full at rs names.old names.new result }
+    /// What was counted of a name; nothing if it has no row, or one that was not counted.
+    pub fn info(names: &[u32], id: Id) -> Option<NameInfo>
+        ensures { result ≡ info_of names.now (first_row (id_keyed id) (rows names_width names.now)) }
     {
-        need::<Names>(names, id, at)
-    }
-
-    /// The counts of a row.
-    pub fn info(names: &[u32], row: usize) -> Option<VarInfo>
-        ensures row { MatchOption result (there names_width names.now row ≡ false) (λ i. (there names_width names.now row ≡ true) × (i.usage ≡ row_word names_width row usage_word names.now) × (i.assign ≡ row_word names_width row assign_word names.now)) }
-    {
-        let start = row_start::<Names>(names, row)?;
-        Some(counts_at(names, start))
-    }
-
-    /// Whether a row is an entry.
-    pub fn is_entry(names: &[u32], row: usize) -> bool
-        ensures row { result ≡ (there names_width names.now row && not (row_word names_width row entry_word names.now == 0)) }
-    {
-        match row_start::<Names>(names, row) {
-            Some(start) => names[start + ENTRY] != 0,
-            None => false,
+        let row = find::<Names>(names, &id)?;
+        if !Names::is(names, row, Flag::Counted) {
+            return None;
         }
+        Some(NameInfo {
+            counts: Names::counts(names, row)?,
+            entry: Names::is(names, row, Flag::Entry),
+        })
     }
 
-    /// Whether a row was counted.
-    pub fn is_counted(names: &[u32], row: usize) -> bool
-        ensures row { result ≡ (there names_width names.now row && not (row_word names_width row counted_word names.now == 0)) }
+    /// Whether a row has a flag.
+    pub fn is(names: &[u32], row: usize, flag: Flag) -> bool
+        ensures row { result ≡ (there names_width names.now row && not (row_word names_width row (flag_word flag) names.now == 0)) }
     {
-        match row_start::<Names>(names, row) {
-            Some(start) => names[start + COUNTED] != 0,
-            None => false,
-        }
+        row_start::<Names>(names, row).is_some_and(|start| names[start + flag as usize] != 0)
     }
 
-    /// Adds to the counts of a row, modulo 2^32.
-    pub fn add(names: &mut [u32], row: usize, by: VarInfo)
-        ensures words { names.new ≡ changed names_width row (more_counts by.usage by.assign) names.old }
-    {
-        if let Some(start) = row_start::<Names>(names, row) {
-            add_counts(&mut names[start..start + Names::WIDTH], by);
-        }
-    }
-
-    /// Subtracts an edge's weights from the counts of a row, modulo 2^32.
-    pub fn subtract(names: &mut [u32], row: usize, weight: VarInfo)
-        ensures words { names.new ≡ changed names_width row (less_counts weight.usage weight.assign) names.old }
-    {
-        if let Some(start) = row_start::<Names>(names, row) {
-            subtract_counts(&mut names[start..start + Names::WIDTH], weight);
-        }
-    }
-
-    /// Makes a row an entry.
-    pub fn set_entry(names: &mut [u32], row: usize)
-        ensures words { names.new ≡ changed names_width row with_entry names.old }
+    /// Gives a row a flag.
+    pub fn set(names: &mut [u32], row: usize, flag: Flag)
+        ensures words { names.new ≡ changed names_width row (with_flag flag) names.old }
+        ensures behind { zeroed names_width names.new ≡ zeroed names_width names.old }
     {
         if let Some(start) = row_start::<Names>(names, row) {
             let words = &mut names[start..start + Names::WIDTH];
-            words[ENTRY] = 1;
-        }
-    }
-
-    /// Makes a row one that was counted.
-    pub fn set_counted(names: &mut [u32], row: usize)
-        ensures words { names.new ≡ changed names_width row with_counted names.old }
-    {
-        if let Some(start) = row_start::<Names>(names, row) {
-            let words = &mut names[start..start + Names::WIDTH];
-            words[COUNTED] = 1;
+            words[flag as usize] = 1;
         }
     }
 }

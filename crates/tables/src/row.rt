@@ -2,16 +2,15 @@ ghost use Rattle.std.specs.Prelude.{◌≡◌, ℕ, ◌<◌, true, List, length}
 ghost use Rattle.tables.specs.declared.fault.TableFault.{TableFault};
 
 use crate::fault::TableFault;
-use crate::key::LawfulEq;
 
 /// The rows of a table: how many words each takes, and where its key stands in them.
 pub trait Row {
-    type Key: LawfulEq + Copy;
+    type Key: Eq + Copy;
 
     /// The words of a row.
     const WIDTH: usize;
 
-    ghost wide: { ℕ };
+    ghost WIDTH: { ℕ };
 
     ghost key_of: { List ℕ → Self.Key };
 
@@ -19,27 +18,24 @@ pub trait Row {
 
     ghost full: { ℕ → TableFault };
 
-    /// The width, for code that does not know the table.
-    fn stride() -> usize
-        ensures { result ≡ wide };
-
+    // `key`, `write` and `fault` are an expression in each table: a function that tables share would be longer.
     /// The key of a row.
     fn key(row: &[u32]) -> Self::Key
-        requires { length row.now ≡ wide }
+        requires { length row.now ≡ WIDTH }
         ensures { result ≡ key_of row.now };
 
     /// Makes a row one with this key, and with 0 in every other word.
     fn write(row: &mut [u32], key: Self::Key)
-        requires { length row.old ≡ wide }
+        requires { length row.old ≡ WIDTH }
         ensures { row.new ≡ fresh key };
 
     /// The fault of a table without a free row, which a record needs.
     fn fault(at: u32) -> TableFault
         ensures { result ≡ full at };
 
-    ghost some: { 0 < wide };
+    ghost some: { 0 < WIDTH };
 
-    ghost whole: { (k : Self.Key) → length (fresh k) ≡ wide };
+    ghost whole: { (k : Self.Key) → length (fresh k) ≡ WIDTH };
 
-    ghost reads: { (k : Self.Key) → Self.Key.LawfulEq.same k (key_of (fresh k)) ≡ true };
+    ghost reads: { (k : Self.Key) → Self.Key.eq k (key_of (fresh k)) ≡ true };
 }

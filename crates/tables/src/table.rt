@@ -1,57 +1,45 @@
 ghost use Rattle.std.specs.Prelude.{◌≡◌, ℕ, ◌+◌, ◌*◌, ◌/◌, ◌<◌, ◌≤◌, true, false, [], length, IfSome, IfOk, IfErr, MatchOption, nat_lt};
 ghost use Rattle.rules.specs.Calls.{zeroed};
-ghost use Rattle.tables.specs.Living.{rows, used, free, there, start_of, keyed, first_row, added, Free};
+ghost use Rattle.tables.specs.Living.{rows, used, free, there, IsThere, start_of, keyed, first_row, added, Free};
 ghost use Rattle.tables.specs.Held.{Holds};
 ghost use Rattle.tables.specs.Inserting.{ComesAlive, FoundThere, OthersStay, HoldsMore, answered, placed};
 
 use crate::fault::TableFault;
-use crate::key::LawfulEq;
 use crate::row::Row;
 use crate::rows::Rows;
 
 /// The number of the first row with the key.
 pub fn find<R: Row>(table: &[u32], key: &R::Key) -> Option<usize>
-    ensures row { result ≡ first_row (keyed R.Key.LawfulEq.same R.key_of key.now) (rows R.wide table.now) }
-    ensures there { IfSome result (λ n. (there R.wide table.now n ≡ true) × (n ≤ length table.now)) }
+    ensures row { result ≡ first_row (keyed R.Key.eq R.key_of key.now) (rows R.WIDTH table.now) }
+    ensures there { IfSome result (IsThere R.WIDTH table.now) }
 {
-    let mut number = 0;
-    for row in Rows::of::<R>(table) {
-        number += 1;
-        if key.is_same(&R::key(row)) {
-            return Some(number);
-        }
-    }
-    None
+    let place = Rows::<R>::of(table).position(|row| *key == R::key(row))?;
+    Some(place + 1)
 }
 
 /// How many rows the table has.
 pub fn row_count<R: Row>(table: &[u32]) -> usize
-    ensures row { result ≡ used R.wide table.now }
-    ensures few { (result ≤ length table.now / R.wide) × (result ≤ length table.now) }
+    ensures row { result ≡ used R.WIDTH table.now }
+    ensures few { (result ≤ length table.now / R.WIDTH) × (result ≤ length table.now) }
 {
-    let mut count = 0;
-    for _ in Rows::of::<R>(table) {
-        count += 1;
-    }
-    count
+    Rows::<R>::of(table).count()
 }
 
 /// Whether the table has a row.
 pub fn has_row<R: Row>(table: &[u32]) -> bool
-    ensures { result ≡ nat_lt 0 (used R.wide table.now) }
+    ensures { result ≡ nat_lt 0 (used R.WIDTH table.now) }
 {
-    Rows::of::<R>(table).next().is_some()
+    Rows::<R>::of(table).next().is_some()
 }
 
 /// Where the row of this number begins, if it is one of the whole rows.
 pub fn row_start<R: Row>(table: &[u32], number: usize) -> Option<usize>
-    ensures { MatchOption result (there R.wide table.now number ≡ false) (λ s. (there R.wide table.now number ≡ true) × (s ≡ start_of R.wide number) × (s + R.wide ≤ length table.now)) }
+    ensures { MatchOption result (there R.WIDTH table.now number ≡ false) (λ s. (there R.WIDTH table.now number ≡ true) × (s ≡ start_of R.WIDTH number) × (s + R.WIDTH ≤ length table.now)) }
 {
-    let width = R::stride();
-    if number == 0 || number > table.len() / width {
+    if number == 0 || number > table.len() / R::WIDTH {
         return None;
     }
-    Some((number - 1) * width)
+    Some((number - 1) * R::WIDTH)
 }
 
 /// The first free row: its number, and where it begins.
@@ -63,7 +51,7 @@ struct FreeRow {
 
 /// The first free row, if a whole one is free.
 fn free_row<R: Row>(table: &[u32]) -> Option<FreeRow>
-    ensures { MatchOption result (free R.wide table.now ≡ false) (λ f. Free R.wide table.now f.number f.start) }
+    ensures { MatchOption result (free R.WIDTH table.now ≡ false) (λ f. Free R.WIDTH table.now f.number f.start) }
 {
     let number = row_count::<R>(table) + 1;
     let start = row_start::<R>(table, number)?;
@@ -72,27 +60,26 @@ fn free_row<R: Row>(table: &[u32]) -> Option<FreeRow>
 
 /// Puts a new row with the key behind the last row, and gives its number. `at` is the record that needs it.
 pub fn insert<R: Row>(table: &mut [u32], key: R::Key, at: u32) -> Result<usize, TableFault>
-    ensures words { table.new ≡ added R.wide (R.fresh key) table.old }
-    ensures row { IfOk result (λ n. (n ≡ used R.wide table.old + 1) × (free R.wide table.old ≡ true)) }
-    ensures there { IfOk result (λ n. (there R.wide table.new n ≡ true) × (n ≤ length table.new)) }
-    ensures refused { IfErr result (λ e. (e ≡ R.full at) × (free R.wide table.old ≡ false)) }
-    ensures alive { ComesAlive R.wide (R.fresh key) table.old table.new }
-    ensures found { FoundThere (keyed R.Key.LawfulEq.same R.key_of key) R.wide (R.fresh key) table.old table.new }
-    ensures others { OthersStay R.Key.LawfulEq.same R.key_of key R.wide table.old table.new }
-    ensures held { HoldsMore R.wide (R.fresh key) table.old table.new }
+    ensures words { table.new ≡ added R.WIDTH (R.fresh key) table.old }
+    ensures row { IfOk result (λ n. (n ≡ used R.WIDTH table.old + 1) × (free R.WIDTH table.old ≡ true)) }
+    ensures there { IfOk result (IsThere R.WIDTH table.new) }
+    ensures refused { IfErr result (λ e. (e ≡ R.full at) × (free R.WIDTH table.old ≡ false)) }
+    ensures alive { ComesAlive R.WIDTH (R.fresh key) table.old table.new }
+    ensures found { FoundThere (keyed R.Key.eq R.key_of key) R.WIDTH (R.fresh key) table.old table.new }
+    ensures others { OthersStay R.Key.eq R.key_of key R.WIDTH table.old table.new }
+    ensures held { HoldsMore R.WIDTH (R.fresh key) table.old table.new }
 {
-    let Some(FreeRow { number, start }) = free_row::<R>(table) else {
-        return Err(R::fault(at));
-    };
-    R::write(&mut table[start..start + R::stride()], key);
-    Ok(number)
+    let free = free_row::<R>(table).ok_or(R::fault(at))?;
+    R::write(&mut table[free.start..free.start + R::WIDTH], key);
+    Ok(free.number)
 }
 
 /// The number of the row with the key, which is put behind the last row if it is not there. `at` is the record that needs it.
 pub fn need<R: Row>(table: &mut [u32], key: R::Key, at: u32) -> Result<usize, TableFault>
-    ensures row { result ≡ answered R.wide (R.full at) table.old (first_row (keyed R.Key.LawfulEq.same R.key_of key) (rows R.wide table.old)) }
-    ensures there { IfOk result (λ n. (there R.wide table.new n ≡ true) × (n ≤ length table.new)) }
-    ensures words { table.new ≡ placed R.wide (R.fresh key) table.old (first_row (keyed R.Key.LawfulEq.same R.key_of key) (rows R.wide table.old)) }
+    ensures row { result ≡ answered R.WIDTH (R.full at) table.old (first_row (keyed R.Key.eq R.key_of key) (rows R.WIDTH table.old)) }
+    ensures there { IfOk result (IsThere R.WIDTH table.new) }
+    ensures words { table.new ≡ placed R.WIDTH (R.fresh key) table.old (first_row (keyed R.Key.eq R.key_of key) (rows R.WIDTH table.old)) }
+    ensures behind { zeroed R.WIDTH table.new ≡ zeroed R.WIDTH table.old }
 {
     match find::<R>(table, &key) {
         Some(number) => Ok(number),
@@ -102,10 +89,9 @@ pub fn need<R: Row>(table: &mut [u32], key: R::Key, at: u32) -> Result<usize, Ta
 
 /// Makes every whole row 0. The words past the last whole row stay.
 pub fn zero_rows<R: Row>(table: &mut [u32])
-    ensures words { table.new ≡ zeroed R.wide table.old }
-    ensures held { Holds R.wide (λ r. r) table.old [] table.new }
+    ensures words { table.new ≡ zeroed R.WIDTH table.old }
+    ensures held { Holds R.WIDTH (λ r. r) table.old [] table.new }
 {
-    let width = R::stride();
-    let whole = table.len() / width * width;
-    table[0..whole].fill(0);
+    let whole = table.len() / R::WIDTH * R::WIDTH;
+    table[..whole].fill(0);
 }

@@ -1,7 +1,7 @@
 ghost use Rattle.std.specs.Prelude.{◌≡◌, IfErr, ◌≢◌};
 ghost use Rattle.tables_tests.specs.declared.carried.Counting.TheVariants.{Table};
 
-use tables::{Id, Names, TableFault, VarInfo};
+use tables::{BookRow, Counted, Flag, Id, Names, TableFault, VarInfo};
 
 /// A fault of something that fills tables: one of a table, or one of its own.
 #[derive(Clone, Copy, PartialEq, Eq, Debug)]
@@ -34,6 +34,6 @@ pub fn read(names: &mut [u32], id: Id, at: u32) -> Result<usize, Counting>
             assign: 0,
         },
     );
-    Names::set_counted(names, row);
+    Names::set(names, row, Flag::Counted);
     Ok(row)
 }

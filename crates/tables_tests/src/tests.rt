@@ -1,8 +1,8 @@
 use crate::carried::{Counting, read};
 use std::test::Fail;
 use tables::{
-    Declared, Edge, Edges, Id, Names, TableFault, VarInfo, find, has_row, insert, row_count,
-    zero_rows,
+    BookRow, Counted, Declared, Edge, Edges, Flag, Id, NameInfo, Names, TableFault, VarInfo, find,
+    has_row, insert, row_count, zero_rows,
 };
 
 const A: Id = Id { symbol: 4, mark: 2 };
@@ -127,12 +127,42 @@ fn counts_wrap(rt: HostRuntime) {
         },
     );
     assert_eq!(rt; names, [4, 2, 2, 4, 0, 0, 1]);
-    Names::set_entry(&mut names, 1);
-    Names::set_entry(&mut names, 0);
+    Names::set(&mut names, 1, Flag::Entry);
+    Names::set(&mut names, 0, Flag::Entry);
     assert!(rt;
-        Names::is_entry(&names, 1) && !Names::is_counted(&names, 1) && !Names::is_entry(&names, 2)
+        Names::is(&names, 1, Flag::Entry)
+            && !Names::is(&names, 1, Flag::Counted)
+            && !Names::is(&names, 2, Flag::Entry)
     );
     assert_eq!(rt; names, [4, 2, 2, 4, 1, 0, 1]);
+}
+
+#[test]
+fn a_name_is_known_once_it_was_counted(rt: HostRuntime) {
+    let mut names = [4, 2, 3, 1, 1, 0, 5, 2, 0, 6, 0, 1];
+    assert_eq!(rt; Names::info(&names, A), None);
+    assert_eq!(rt; Names::info(&names, B), None);
+    assert_eq!(rt;
+        Names::info(&names, C),
+        Some(NameInfo {
+            counts: VarInfo {
+                usage: 0,
+                assign: 6,
+            },
+            entry: false,
+        })
+    );
+    Names::set(&mut names, 1, Flag::Counted);
+    assert_eq!(rt;
+        Names::info(&names, A),
+        Some(NameInfo {
+            counts: VarInfo {
+                usage: 3,
+                assign: 1,
+            },
+            entry: true,
+        })
+    );
 }
 
 #[test]

@@ -6,7 +6,7 @@
 --   grows, grows_edge                        what an event makes of its name's row, and of its edges'
 --   grown_is, heavier_is                     in words it is the same
 use Rattle.std.specs.Prelude.{if◌then◌else◌}
-use Rattle.std.proofs.Common.{◌≡◌, ℕ, zero, suc, ◌+◌, ◌^◌, ◌<◌, ◌≤◌, Bool, true, false, ◌||◌, List, [], ◌∷◌, ◌++◌, length, sym, refl, ap, ◌∙◌, subst, inl, inr, mod-eq_of_lt, arith}
+use Rattle.std.proofs.Common.{◌≡◌, ℕ, zero, suc, ◌+◌, ◌^◌, ◌<◌, ◌≤◌, Bool, true, false, ◌||◌, List, [], ◌∷◌, ◌++◌, sym, refl, ap, ◌∙◌, subst, inl, inr, mod-eq_of_lt, arith}
 use Rattle.std.proofs.lemmas.Bool.{cases_Bool, both_ways, or_parts, or_from, or_right}
 use Rattle.rules.specs.Tree.{Name}
 use Rattle.rules.specs.Names.{same}
@@ -74,11 +74,6 @@ distinct_push n (r ∷ rs) h d =
     (none_push r.name n rs d.0 (turned n r.name p.0), distinct_push n rs p.1 d.1)
 
 -- A ROW THAT CHANGES
-
-pub change_length : {Row : Type 0} (j : ℕ) (to : Row → Row) (rs : List Row) → length (change_nth j to rs) ≡ length rs
-change_length j to [] = refl
-change_length zero to (r ∷ rs) = refl
-change_length (suc j) to (r ∷ rs) = ap suc (change_length j to rs)
 
 pub change_twice : {Row : Type 0} (j : ℕ) (f g : Row → Row) (rs : List Row) → change_nth j f (change_nth j g rs) ≡ change_nth j (λ r. f (g r)) rs
 change_twice j f g [] = refl

@@ -11,19 +11,20 @@ use Rattle.rules.specs.Tree.{Name}
 use Rattle.rules.specs.Refusals.{names_full, edges_full}
 use Rattle.rules.specs.Counting.{Event}
 use Rattle.rules.specs.Tables.{NameRow, EdgeRow, Counts, Room, some_row, need, change, fresh, row_of, edge_of, row_number, reads, writes, need_name, need_edge, grow_edge, grow_name, names_width, edges_width}
-use Rattle.tables.specs.declared.key.Edge.{Edge}
+use Rattle.tables.specs.declared.edge_row.Edge.{Edge}
 use Rattle.tables.specs.declared.fault.TableFault.TheVariants.{Names, Edges}
 use Rattle.tables.specs.Counts.{more_counts, with_counted}
 use Rattle.tables.specs.Held.{changed}
 use Rattle.tables.specs.Living.{rows, first_row, change_nth}
 use Rattle.tables.specs.Matching.{name_words, edge_words, NamesHeld, EdgesHeld, id_keyed, ends_keyed, Present, Known, new_edge, ends_of, grown, marked}
 use Rattle.tables.specs.Ready.{Distinct}
+use Rattle.tables.proofs.Changing.{length_change}
 use Rattle.tables.proofs.Numbering.{first_some, numbered_first, number_more, present_more}
 use Rattle.tables.proofs.Matched.{names_needed, names_changed, names_change, edges_needed, edges_changed, edges_change, edges_stay}
 use Rattle.data.specs.Events.{Placed, name_placed, edge_placed, Tables, tables, made_entry}
 use Rattle.data.specs.Filling.{id_of}
 use Rattle.tally.proofs.Outcomes.{Alike, alike_then, RowThere, RowPlaced, row_placed}
-use Rattle.tally.proofs.Rows.{Light, LightEdges, light_less, light_edges_less, light_push, light_edges_push, known_push, distinct_push, change_length, change_twice, change_none, names_kept, distinct_named, known_change, grows, grows_edge, light_grows, light_edges_grow, made, grown_is, heavier_is}
+use Rattle.tally.proofs.Rows.{Light, LightEdges, light_less, light_edges_less, light_push, light_edges_push, known_push, distinct_push, change_twice, change_none, names_kept, distinct_named, known_change, grows, grows_edge, light_grows, light_edges_grow, made, grown_is, heavier_is}
 
 -- words that hold the book's rows, to each of whose counts k can still be added
 pub record Rowed (k : ℕ) (found found' : List ℕ) (t : Tables) (c : Counts) : Type 0 where
@@ -221,8 +222,8 @@ module _ (found found' : List ℕ) where
       let words₁ = changed names_width row (more_counts (reads e) (writes e)) t.names in
       let words₂ = made_entry e.entry row words₁ in
       let words₃ = changed names_width row with_counted words₂ in
-      let long₁ = change_length j (grown (reads e) (writes e)) rs in
-      let long₂ = change_length j (made e.entry) first in
+      let long₁ = length_change rs j (grown (reads e) (writes e)) in
+      let long₂ = length_change first j (made e.entry) in
       let held₁ : NamesHeld found first words₁ = (names_changed found rs t.names row (reads e) (writes e) s.names_held above within).0 in
       let held₂ : NamesHeld found second words₂ = made_held e.entry first words₁ row held₁ above (omega arith) in
       let held₃ : NamesHeld found (change_nth j marked second) words₃ = (names_changed found second words₂ row 0 0 held₂ above (omega arith)).3 in

@@ -1,27 +1,30 @@
 use Rattle.std.proofs.Common.{rules}
-use Rattle.tables.proofs.Adding.{put_added, comes_alive, found_there, others_stay, held_more}
+use Rattle.tables.proofs.Adding.{comes_alive, found_there, others_stay, held_more}
 use Rattle.tables.proofs.table.insert.Goals as goal
 
-pub returns : goal.returns
-returns g c =
-    let same = g.R.Key.LawfulEq.same in
-    let key_of = g.R.Row.key_of in
+pub returns-clause-words : goal.returns-clause-words
+returns-clause-words g c = search rules
+
+pub returns-clause-alive : goal.returns-clause-alive
+returns-clause-alive g c =
     let k = c.args.key in
-    let w = g.R.Row.wide in
-    let row = g.R.Row.fresh k in
-    let t = c.args.table.now in
-    let some = g.met.R.Row.some in
-    let whole = g.met.R.Row.whole k in
-    let reads = g.met.R.Row.reads k in
-    let free = c.in-Some.ensures in
-    let words = put_added w c.stride.result c.in-Some.field-0.start row t c.write.new.row whole c.stride.ensures free.some free.place c.write.ensures in
-    record {
-      words = words;
-      row = (free.next, free.some);
-      there = search rules;
-      refused = tt;
-      alive = comes_alive same key_of k w row t _ some whole reads words;
-      found = found_there same key_of k w row t _ some whole reads words;
-      others = others_stay same key_of k w row t _ some whole reads words g.met.R.Key.LawfulEq.symmetric g.met.R.Key.LawfulEq.transitive;
-      held = held_more same key_of k w row t _ some whole reads words;
-    }
+    comes_alive g.R.Key.PartialEq.eq g.R.Row.key_of k g.R.Row.WIDTH (g.R.Row.fresh k) c.args.table.now _
+    g.met.R.Row.some (g.met.R.Row.whole k) (g.met.R.Row.reads k) (returns-clause-words g c)
+
+pub returns-clause-found : goal.returns-clause-found
+returns-clause-found g c =
+    let k = c.args.key in
+    found_there g.R.Key.PartialEq.eq g.R.Row.key_of k g.R.Row.WIDTH (g.R.Row.fresh k) c.args.table.now _
+    g.met.R.Row.some (g.met.R.Row.whole k) (g.met.R.Row.reads k) (returns-clause-words g c)
+
+pub returns-clause-others : goal.returns-clause-others
+returns-clause-others g c =
+    let k = c.args.key in
+    others_stay g.R.Key.PartialEq.eq g.R.Row.key_of k g.R.Row.WIDTH (g.R.Row.fresh k) c.args.table.now _
+    g.met.R.Row.some (g.met.R.Row.whole k) (g.met.R.Row.reads k) (returns-clause-words g c) g.met.R.Key.Eq.laws
+
+pub returns-clause-held : goal.returns-clause-held
+returns-clause-held g c =
+    let k = c.args.key in
+    held_more g.R.Key.PartialEq.eq g.R.Row.key_of k g.R.Row.WIDTH (g.R.Row.fresh k) c.args.table.now _
+    g.met.R.Row.some (g.met.R.Row.whole k) (g.met.R.Row.reads k) (returns-clause-words g c)

@@ -1,3 +1,0 @@
-pub mod Tells
-mod Holders
-mod Counted
