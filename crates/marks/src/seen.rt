@@ -1,34 +1,62 @@
-ghost use Rattle.std.specs.Prelude.{◌≡◌, true, false, MatchOption};
+ghost use Rattle.std.specs.Prelude.{◌≡◌, if◌then◌else◌};
 ghost use Rattle.rules.specs.Names.{among};
-ghost use Rattle.tables.specs.Matching.{name_of_id};
-ghost use Rattle.marks.specs.Noting.{noted, noted_names, is_new, note};
+ghost use Rattle.records.specs.Ids.{name_of_id};
+ghost use Rattle.marks.specs.Noting.{is_new, note};
 
-use tables::{Id, LawfulEq};
+use records::Id;
+use std::marker::Model;
 
-/// Whether a name was noted: the memory holds symbol and mark of so many, from the front.
-fn has_name(words: &[u32], count: usize, id: Id) -> bool
-    ensures { result ≡ among (name_of_id id) (noted_names (noted words.now count)) }
-{
-    for i in 0..count.min(words.len() / 2) {
-        let other = Id {
-            symbol: words[2 * i],
-            mark: words[2 * i + 1],
-        };
-        if id.is_same(&other) {
-            return true;
-        }
-    }
-    false
+/// The names noted in memory that the caller lends, since there is no heap: a pair of symbol and mark for each.
+/// The first `free` pairs are free, and the last name stands right behind them.
+#[derive(Drop)]
+pub(crate) struct Noted<'s> {
+    pairs: &'s mut [[u32; 2]],
+    free: usize,
 }
 
-/// Notes a name behind so many others and gives how many there are then, unless it was noted or there is no room for it.
-pub(crate) fn note_name(words: &mut [u32], count: usize, id: Id) -> Option<usize>
-    ensures { MatchOption result ((is_new (name_of_id id) (noted words.old count) ≡ false) × (words.new ≡ words.old)) (λ more. (is_new (name_of_id id) (noted words.old count) ≡ true) × (noted words.new more ≡ note (name_of_id id) (noted words.old count))) }
-{
-    if count >= words.len() / 2 || has_name(words, count, id) {
-        return None;
+impl<'s> Model for Noted<'s> {
+    ghost use Rattle.std.specs.Prelude.{◌≤◌, drop, length};
+    ghost use Rattle.marks.specs.Noting.{Noting, names_in};
+
+    ghost Value = { Noting };
+
+    ghost view = { λ s. record { names = names_in (drop s.free s.pairs.now); room = s.free } };
+
+    ghost invariant = { λ s. s.free ≤ length s.pairs.now };
+}
+
+impl<'s> Noted<'s> {
+    ghost use Rattle.std.specs.Prelude.{◌/◌, [], length};
+
+    /// No names yet, and room for as many as the words have pairs.
+    pub(crate) fn none(words: &'s mut [u32]) -> Noted<'s>
+        ensures none { result.names ≡ [] }
+        ensures room { result.room ≡ length words.old / 2 }
+    {
+        let (pairs, _) = words.as_chunks_mut();
+        let free = pairs.len();
+        Noted { pairs, free }
     }
-    words[2 * count] = id.symbol;
-    words[2 * count + 1] = id.mark;
-    Some(count + 1)
+
+    /// Whether a name was noted.
+    fn has(&self, id: Id) -> bool
+        ensures { result ≡ among (name_of_id id) self.now.names }
+    {
+        self.pairs[self.free..]
+            .iter()
+            .any(|&[symbol, mark]| id == Id { symbol, mark })
+    }
+
+    /// Notes a name, unless it was noted or there is no room for it; whether it was new.
+    pub(crate) fn note(&mut self, id: Id) -> bool
+        ensures new { result ≡ is_new (name_of_id id) self.old }
+        ensures noted { self.new ≡ (if result then note (name_of_id id) self.old else self.old) }
+    {
+        if self.free == 0 || self.has(id) {
+            return false;
+        }
+        self.free -= 1;
+        self.pairs[self.free] = [id.symbol, id.mark];
+        true
+    }
 }

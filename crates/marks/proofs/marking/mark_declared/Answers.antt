@@ -1,11 +1,17 @@
-use Rattle.std.proofs.Common.{rules}
-use Rattle.rules.specs.Names.{under, under_nothing}
-use Rattle.rules.specs.Words.{tree_of}
-use Rattle.records.specs.Reads.{head_of}
-use Rattle.marks.proofs.Marks.{declared_told}
+use Rattle.std.proofs.Common.{[], arith, rules}
+use Rattle.rules.specs.Names.{under, under_nothing, declaring}
+use Rattle.records.specs.Chains.{as_chain, head_of_node}
+use Rattle.data.specs.Events.{tables}
+use Rattle.marks.specs.Marking.{Once, once}
+use Rattle.marks.proofs.Marks.{once_marked, few_declared, says_on}
 use Rattle.marks.proofs.marking.mark_declared.Goals as goal
 
-pub returns : goal.returns
-returns c =
-    let told = declared_told c.declared_below.result (under under_nothing (head_of c.args.n c.args.node)) (tree_of c.args.words.now c.args.node.first) c.args.n c.args.names.now c.args.seen.now _ c.requires.room c.declared_below.ensures.names in
+pub returns-clause-marks : goal.returns-clause-marks
+returns-clause-marks c = λ edges.
+    let around = under under_nothing (head_of_node c.args.node) in
+    let below = as_chain c.args.node.below in
+    let few = few_declared around below in
+    let start = once c.args.names.now c.none-seen.result c.args.node.number in
+    let same = once_marked (declaring around below) start [] edges c.none-seen.ensures.none (omega (arith, c.none-seen.ensures.room)) in
+    let told = says_on (λ (s : Once). tables s.names edges) _ _ _ _ _ _ same c.declared_below.ensures.names in
     search rules
