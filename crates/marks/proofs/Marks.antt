@@ -1,7 +1,6 @@
 -- Names marked as they come are the book's marks, entered one after another into the words of names and edges; a mark has no holder, so edges stay.
 -- Where memory has room for every name that comes, marking those that were not noted is marking each once.
-use Rattle.std.specs.Prelude.{if◌then◌else◌}
-use Rattle.std.proofs.Common.{◌≡◌, ℕ, ◌+◌, ◌-◌, ◌≤◌, Bool, true, false, not, ◌&&◌, List, [], ◌∷◌, ◌++◌, length, Ok, Err, Result, sym, refl, ap, ◌∙◌, ⊎_elim, arith, length-append}
+use Rattle.std.proofs.Common.{◌≡◌, ℕ, ◌+◌, ◌-◌, ◌≤◌, Bool, true, false, List, [], ◌∷◌, ◌++◌, length, Ok, Err, Result, refl, ap, ◌∙◌, ⊎_elim, arith, length-append}
 use Rattle.std.proofs.lemmas.Bool.{cases_Bool, lt-ltb}
 use Rattle.rules.specs.Tree.{Head, Name, Chain, name_of, reached}
 use Rattle.rules.specs.Tree.Chain.{end, link}
@@ -12,8 +11,7 @@ use Rattle.rules.specs.Refusals.Outcome.{fine, refused}
 use Rattle.names.specs.Sinks.{each}
 use Rattle.data.specs.Events.{Tables, tables, entered}
 use Rattle.data.specs.Filling.{fill_words}
-use Rattle.marks.specs.Noting.{is_new, note}
-use Rattle.marks.specs.Marking.{mark_name, Marking, marking, mark_each, Once, once, mark_once}
+use Rattle.marks.specs.Marking.{mark_name, marking, mark_each, Once, once, mark_once}
 
 -- one mark, and then the others: as the book goes on, so does what marks
 mark_first : {S : Type 0} (n : Name) (at : ℕ) (names edges : List ℕ) (es : List Event) (to : List ℕ → Outcome S) (go : S → Outcome S) (ends : S → Outcome Tables)
