@@ -10,7 +10,7 @@
 --   some_record, turned          a turn
 --   closed                       the end
 use Rattle.std.proofs.Common.{◌≡◌, ℕ, ◌-◌, ◌<◌, ◌≤◌, Bool, true, false, not, ◌||◌, List, length, get_or, sym, refl, ap, ◌∙◌, subst, arith}
-use Rattle.std.proofs.Math.Bool.{or-false}
+use Rattle.std.proofs.Math.Bool.{or_assoc, or-false, or-true}
 use Rattle.rules.specs.Tree.{Head, Chain, is_end, below, alone, append}
 use Rattle.rules.specs.Tree.Chain.{end, link}
 use Rattle.rules.specs.Words.{tree_of, Whole}
@@ -38,7 +38,7 @@ asked_at w i d c nested = (
   subst (λ (k : Chain). depth k ≤ d) (sym (read_at w i d c nested)) nested.deep,
 )
 
--- it is the chain that children made there are
+-- children made of the link there are that chain
 chain_at : (w : List ℕ) (i d : ℕ) (c : Chain) (k : Children) → k.words.now ≡ w → k.at ≡ get_or w i 0 → Nested w i d c → as_chain k ≡ c
 chain_at w i d c k ew en nested = (λ j. tree_of (ew j) (en j)) ∙ read_at w i d c nested
 
@@ -55,18 +55,14 @@ done_left restates h inner = refl
 done_left (yields name) h inner = refl
 done_left unwraps h inner = refl
 
-or_true : (x : Bool) → true ≡ (x || true)
-or_true true = refl
-or_true false = refl
-
 done_changed : (v : book.Verdict) (h : Head) (inner : Left) → (done v h inner).changed ≡ (inner.changed || removes (verdict_of v))
 done_changed stays h inner = sym (or-false inner.changed)
 done_changed sweeps h inner = sym (or-false inner.changed)
-done_changed (empties names) h inner = or_true inner.changed
-done_changed (unlinks name) h inner = or_true inner.changed
-done_changed restates h inner = or_true inner.changed
-done_changed (yields name) h inner = or_true inner.changed
-done_changed unwraps h inner = or_true inner.changed
+done_changed (empties names) h inner = sym (or-true inner.changed)
+done_changed (unlinks name) h inner = sym (or-true inner.changed)
+done_changed restates h inner = sym (or-true inner.changed)
+done_changed (yields name) h inner = sym (or-true inner.changed)
+done_changed unwraps h inner = sym (or-true inner.changed)
 
 alone_twice : (c : Chain) → alone (alone c) ≡ alone c
 alone_twice end = refl
@@ -175,10 +171,6 @@ pub record Ongoing (by : By) (p : Place) (w0 : List ℕ) (i0 : ℕ) (c : Chain) 
 abbrev pub Walking : (by : By) (p : Place) (w0 : List ℕ) (i0 : ℕ) (w : List ℕ) (i d : ℕ) (g : Bool) → Type 0
 Walking by p w0 i0 w i d g = (i < length w) × ((c : Chain) → Nested w0 i0 d c → (todo : Chain) × Ongoing by p w0 i0 c w i d g todo)
 
-or_move : (x y z : Bool) → ((x || y) || z) ≡ (x || (y || z))
-or_move true y z = refl
-or_move false y z = refl
-
 module _ (by : By) (p : Place) (w0 : List ℕ) (i0 d : ℕ) (first : (c : Chain) × Nested w0 i0 d c) (w : List ℕ) (i : ℕ) (g : Bool) (walk : Walking by p w0 i0 w i d g) (ne : get_or w i 0 ≡ 0 → ⊥) where
   nested_at : (c todo : Chain) → Ongoing by p w0 i0 c w i d g todo → Nested w i d todo
   nested_at c todo go = record { at = go.going.at; deep = go.deep }
@@ -199,7 +191,7 @@ module _ (by : By) (p : Place) (w0 : List ℕ) (i0 d : ℕ) (first : (c : Chain)
         let t = does h ch rest (nested_at c (link h ch rest) go) in
         let x = turn (treats by p) w0 i0 c w v i h ch rest (here by p h ch rest).chain (here_onto by p h ch rest) t.step.made go.going in
         let flag : ((g || a) || (treat by p rest).changed) ≡ (treat by p c).changed
-        = or_move g a (treat by p rest).changed ∙ ap (λ (b : Bool). g || (b || (treat by p rest).changed)) t.flag ∙ go.flag in
+        = or_assoc g a (treat by p rest).changed ∙ ap (λ (b : Bool). g || (b || (treat by p rest).changed)) t.flag ∙ go.flag in
         subst (λ (j : ℕ). ((todo : Chain) × Ongoing by p w0 i0 c v j d (g || a) todo) × (to_go v j < to_go w i)) (sym t.step.next)
         ((rest, record { going = x.0; deep = omega (arith, go.deep); flag = flag }), x.1)
 

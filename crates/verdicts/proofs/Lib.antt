@@ -1,2 +1,1 @@
-mod Members
 pub mod RowsRead
