@@ -21,7 +21,7 @@ edge_of w = get_or w.turns (node_of w) 0 - 1
 
 -- v, when that edge of w is followed
 abbrev pub after_edge : (w v : Walking) → Walking
-after_edge w v = record v { turns = set v.turns (node_of w) (get_or w.links (edge_of w) 0) }
+after_edge w v = record v { turns = set v.turns (node_of w) (get_or v.links (edge_of w) 0) }
 
 -- a step of w leads to a walk again
 pub record Steps (w v : Walking) : Type 0 where

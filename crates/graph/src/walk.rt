@@ -105,14 +105,13 @@ impl<'a, 'b, E: Edges> Walk<'a, 'b, E> {
             return;
         }
         let (_, target) = self.edges.edge(turn - 1);
-        let link = self.links[turn - 1];
         let place = self.places[target as usize];
         if place == 0 {
             self.enter(target);
         } else {
             self.depth = self.borders_below(place);
         }
-        self.turns[node] = link;
+        self.turns[node] = self.links[turn - 1];
     }
 
     /// One step: the topmost segment is a component, or the node whose turn it is has no edge left, or its next edge is followed.
