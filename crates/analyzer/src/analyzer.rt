@@ -10,6 +10,7 @@ use records::{Id, MOST_NESTING};
 pub(crate) struct Analyzer<'t> {
     pub(crate) scope: Scope,
     pub(crate) path: [Id; MOST_NESTING],
+    // Two tables side by side: lent within a struct of their own, the check loses what they are when the loan ends.
     pub(crate) names: &'t mut [u32],
     pub(crate) edges: &'t mut [u32],
     pub(crate) seen: &'t mut [u32],

@@ -27,6 +27,7 @@ impl<'t> Analyzer<'t> {
         if self.scope.is_own(id) {
             return Ok(());
         }
+        // A copy: the check does not cover a field that is read while others are lent for a write.
         let path = self.path;
         let holders = &path[self.scope.start..self.scope.len];
         let event = Event {

@@ -21,6 +21,7 @@ pub(crate) enum Role {
 pub(crate) struct Scope {
     pub(crate) start: usize,
     pub(crate) len: usize,
+    // A flag beside `start`: until the innermost scope puts a name on the path, those from `start` on still hold a reference.
     pub(crate) fresh: bool,
     pub(crate) cur_fn_id: Option<Id>,
     pub(crate) cur_class_id: Option<Id>,

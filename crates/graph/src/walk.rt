@@ -85,10 +85,10 @@ impl<'a, 'b, E: Edges> Walk<'a, 'b, E> {
         ensures dropped { (t : ℕ) → result ≤ t → t < self.now.depth → place ≤ slice_index self.now.borders t }
     {
         let borders = &self.borders[..self.depth as usize];
-        match borders.iter().rposition(|border| *border < place) {
-            Some(last) => last as u32 + 1,
-            None => 0,
-        }
+        borders
+            .iter()
+            .rposition(|border| *border < place)
+            .map_or(0, |last| last as u32 + 1)
     }
 
     /// Follows the next edge of the node whose turn it is, or goes back from it if it has none left.

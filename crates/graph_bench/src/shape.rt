@@ -39,7 +39,7 @@ const FAN: u32 = 768;
 
 impl Shape {
     /// Its edge `k` on so many nodes, which are at least 2.
-    pub fn edge(self, nodes: u32, k: u32) -> (u32, u32) {
+    pub(crate) fn edge(self, nodes: u32, k: u32) -> (u32, u32) {
         let last = nodes.saturating_sub(1).max(1);
         let nodes = nodes.max(2);
         match self {

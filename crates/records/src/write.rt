@@ -14,6 +14,7 @@ const SYMBOL: usize = 2;
 
 const MARK: usize = 3;
 
+// Two names for two fields of `set_word`, which is the one text of both: a field among the parameters would say no more.
 /// Writes the link of record `n` to its first child; where there is no such record, nothing.
 pub fn set_first(words: &mut [u32], n: u32, link: u32)
     ensures { words.new ≡ with_word words.old n 4 link }

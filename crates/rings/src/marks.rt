@@ -5,6 +5,7 @@ ghost use Rattle.rings.specs.Marking.{Outside};
 use crate::labelled::Labelled;
 use crate::members::ByLabel;
 
+// No common text with the graph's links by node: that one tests the nodes that its edges name, and refuses.
 /// Links the nodes of each label, the last one first.
 pub fn link_members<'g, 'm>(
     graph: &Labelled<'g>,

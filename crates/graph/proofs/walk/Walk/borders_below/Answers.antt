@@ -6,14 +6,9 @@ use Rattle.graph.proofs.walk.Walk.borders_below.Goals as goal
 pub slice_bounds-borders-end : goal.slice_bounds-borders-end
 slice_bounds-borders-end g c = omega (arith, length-take {A = ℕ}, depth_room c.self.invariant)
 
-pub returns-in-Some-clause-dropped : goal.returns-in-Some-clause-dropped
-returns-in-Some-clause-dropped g c =
-    let bs = take c.self.inside.depth c.self.inside.borders.now in
-    let h : (t : ℕ) → c.in-Some.last + 1 ≤ t → t < length bs → c.args.place ≤ get_or bs t 0 = search rules in
-    rw (← c.self.view_is) (λ t low high. omega (arith, h t low (omega (arith, length-take {A = ℕ}, depth_room c.self.invariant)), get_or-take c.self.inside.depth c.self.inside.borders.now t 0 high))
 
-pub returns-in-None-clause-dropped : goal.returns-in-None-clause-dropped
-returns-in-None-clause-dropped g c =
+pub returns-clause-dropped : goal.returns-clause-dropped
+returns-clause-dropped g c =
     let bs = take c.self.inside.depth c.self.inside.borders.now in
-    let h : (t : ℕ) → t < length bs → c.args.place ≤ get_or bs t 0 = search rules in
-    rw (← c.self.view_is) (λ t low high. omega (arith, h t (omega (arith, length-take {A = ℕ}, depth_room c.self.invariant)), get_or-take c.self.inside.depth c.self.inside.borders.now t 0 high))
+    let h : (t : ℕ) → c.map_or.result ≤ t → t < length bs → c.args.place ≤ get_or bs t 0 = search rules in
+    rw (← c.self.view_is) (λ t low high. omega (arith, h t low (omega (arith, length-take {A = ℕ}, depth_room c.self.invariant)), get_or-take c.self.inside.depth c.self.inside.borders.now t 0 high))
