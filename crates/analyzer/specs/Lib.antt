@@ -4,3 +4,4 @@ pub mod Scopes
 pub mod Walk
 pub mod Visits
 pub mod Readings
+pub mod Uses

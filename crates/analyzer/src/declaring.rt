@@ -16,7 +16,7 @@ ghost use Rattle.tables.specs.Faults.{number as number_of, place as place_of};
 ghost use Rattle.analyzer.specs.Declaring.{declare_key, declare_words, FilledDeclared, FullDeclared};
 
 use names::{NameSink, declared_names};
-use records::{Children, Id, MOST_NESTING, ROOT, Record};
+use records::{Children, Id, MOST_NESTING, Node, ROOT};
 use tables::{BookRow, Declared, TableFault, has_row, zero_rows};
 
 /// The table of the declared names, as names come to it.
@@ -42,8 +42,8 @@ impl<'t> NameSink for Declaring<'t> {
 
     ghost place = { place_of };
 
-    fn take(&mut self, n: u32, bearer: Record) -> Result<(), TableFault> {
-        declare(self.table, bearer.id(), n)
+    fn take(&mut self, bearer: Node<'_>) -> Result<(), TableFault> {
+        declare(self.table, bearer.record.id(), bearer.number)
     }
 }
 

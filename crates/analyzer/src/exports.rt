@@ -2,8 +2,9 @@ ghost use Rattle.std.specs.Prelude.{◌≡◌};
 
 use crate::analyzer::Analyzer;
 use crate::fault::CountFault;
+use crate::reference::Use;
 use names::{NameSink, exported_names};
-use records::{Children, Record};
+use records::{Children, Node};
 
 /// A walk that reads each name as it comes.
 #[derive(Drop)]
@@ -32,8 +33,8 @@ impl<'a, 't> NameSink for Reading<'a, 't> {
 
     ghost place = { place_of };
 
-    fn take(&mut self, n: u32, bearer: Record) -> Result<(), CountFault> {
-        self.analyzer.reference(false, n, bearer)
+    fn take(&mut self, bearer: Node<'_>) -> Result<(), CountFault> {
+        self.analyzer.reference(Use::Reads, bearer)
     }
 }
 

@@ -9,6 +9,7 @@ ghost use Rattle.analyzer.specs.Walk.{Went, sort_of, visited, walk};
 use crate::analyzer::{Analyzer, Entered};
 use crate::fault::CountFault;
 use crate::notes::{Notes, calls_eval};
+use crate::reference::Use;
 use records::{Children, Kind, Node, Record};
 
 /// The sorts of records, one for each function that visits records.
@@ -95,7 +96,7 @@ impl<'t> Analyzer<'t> {
         }
         self.visit_inside(node)?;
         if node.record.kind == Kind::ExportName {
-            self.reference(false, node.number, node.record)?;
+            self.reference(Use::Reads, node)?;
         }
         Ok(())
     }
@@ -135,7 +136,7 @@ impl<'t> Analyzer<'t> {
     {
         self.visit_inside(node)?;
         if node.record.kind == Kind::Identifier {
-            self.reference(false, node.number, node.record)?;
+            self.reference(Use::Reads, node)?;
         }
         if node.record.kind == Kind::Call && calls_eval(node.below) {
             self.notes.found_direct_eval = true;
@@ -151,7 +152,7 @@ impl<'t> Analyzer<'t> {
         ensures walk { Went (visited Sort.Pattern (here_of self.old) (head_of_node node.entry) (as_chain node.entry.below) (state_of self.old)) result (state_of self.new) }
     {
         self.visit_inside(node)?;
-        self.assign(node.number, node.record)
+        self.assign(node)
     }
 
     /// Counts the children of a record, with what surrounds them.

@@ -3,9 +3,9 @@
 --   told              a refusal
 --   refusal_text      a refused call
 --   answer_text       any call
-use Rattle.std.specs.Prelude.{ℕ, true, false, List, ◌++◌, codes, decimal}
+use Rattle.std.specs.Prelude.{ℕ, true, false, List, ◌++◌, codes, decimal, Ok, Err}
 use Rattle.answers.specs.declared.answer.Answer.{Answer}
-use Rattle.answers.specs.declared.answer.Answer.TheVariants.{Begun, BeginRefused, Reset, ResetRefused, Passed, PassRefused, Repeated, RepeatRefused}
+use Rattle.answers.specs.declared.answer.Answer.TheVariants.{Begin, Reset, Pass, Repeat}
 use Rattle.answers.specs.declared.answer.Refusal.{Refusal}
 
 -- a refusal
@@ -18,12 +18,12 @@ refusal_text call r = call ++ (codes " refused " ++ (decimal r.number ++ (codes 
 
 -- what a call returned
 abbrev pub answer_text : Answer → List ℕ
-answer_text Begun = codes "begin ok"
-answer_text (BeginRefused r) = refusal_text (codes "begin") r
-answer_text Reset = codes "reset ok"
-answer_text (ResetRefused r) = refusal_text (codes "reset") r
-answer_text (Passed false) = codes "pass ok 0"
-answer_text (Passed true) = codes "pass ok 1"
-answer_text (PassRefused r) = refusal_text (codes "pass") r
-answer_text (Repeated passes reached) = codes "repeat ok " ++ (decimal passes ++ (codes " " ++ decimal reached))
-answer_text (RepeatRefused r passes) = refusal_text (codes "repeat") r ++ (codes " " ++ decimal passes)
+answer_text (Begin (Ok _)) = codes "begin ok"
+answer_text (Begin (Err r)) = refusal_text (codes "begin") r
+answer_text (Reset (Ok _)) = codes "reset ok"
+answer_text (Reset (Err r)) = refusal_text (codes "reset") r
+answer_text (Pass (Ok false)) = codes "pass ok 0"
+answer_text (Pass (Ok true)) = codes "pass ok 1"
+answer_text (Pass (Err r)) = refusal_text (codes "pass") r
+answer_text (Repeat passes (Ok reached)) = codes "repeat ok " ++ (decimal passes ++ (codes " " ++ decimal reached))
+answer_text (Repeat passes (Err r)) = refusal_text (codes "repeat") r ++ (codes " " ++ decimal passes)

@@ -18,14 +18,13 @@ pub struct Refusal {
 /// What a call returned.
 #[derive(Clone, Copy)]
 pub enum Answer {
-    Begun,
-    BeginRefused(Refusal),
-    Reset,
-    ResetRefused(Refusal),
-    Passed { changed: bool },
-    PassRefused(Refusal),
-    Repeated { passes: u32, reached: u32 },
-    RepeatRefused { refusal: Refusal, passes: u32 },
+    Begin(Result<(), Refusal>),
+    Reset(Result<(), Refusal>),
+    Pass(Result<bool, Refusal>),
+    Repeat {
+        passes: u32,
+        reached: Result<u32, Refusal>,
+    },
 }
 
 impl From<CheckFault> for Refusal {
@@ -71,15 +70,21 @@ impl fmt::Display for Answer {
     /// Writes what a call returned.
     fn fmt<W: fmt::Write>(&self, f: &mut fmt::Formatter<W>) -> fmt::Result {
         match self {
-            Answer::Begun => f.write_str("begin ok"),
-            Answer::BeginRefused(refusal) => write!(f, "begin {refusal}"),
-            Answer::Reset => f.write_str("reset ok"),
-            Answer::ResetRefused(refusal) => write!(f, "reset {refusal}"),
-            Answer::Passed { changed: false } => f.write_str("pass ok 0"),
-            Answer::Passed { changed: true } => f.write_str("pass ok 1"),
-            Answer::PassRefused(refusal) => write!(f, "pass {refusal}"),
-            Answer::Repeated { passes, reached } => write!(f, "repeat ok {passes} {reached}"),
-            Answer::RepeatRefused { refusal, passes } => write!(f, "repeat {refusal} {passes}"),
+            Answer::Begin(Ok(())) => f.write_str("begin ok"),
+            Answer::Begin(Err(refusal)) => write!(f, "begin {refusal}"),
+            Answer::Reset(Ok(())) => f.write_str("reset ok"),
+            Answer::Reset(Err(refusal)) => write!(f, "reset {refusal}"),
+            Answer::Pass(Ok(false)) => f.write_str("pass ok 0"),
+            Answer::Pass(Ok(true)) => f.write_str("pass ok 1"),
+            Answer::Pass(Err(refusal)) => write!(f, "pass {refusal}"),
+            Answer::Repeat {
+                passes,
+                reached: Ok(reached),
+            } => write!(f, "repeat ok {passes} {reached}"),
+            Answer::Repeat {
+                passes,
+                reached: Err(refusal),
+            } => write!(f, "repeat {refusal} {passes}"),
         }
     }
 }

@@ -15,7 +15,7 @@ ghost use Rattle.marks.specs.Marking.{Marking, marking, mark_each, Once, once, m
 use crate::seen::Noted;
 use data::{Event, count_name};
 use names::{NameSink, bound_names, declared_below};
-use records::{Id, Node, Record};
+use records::{Id, Node};
 use tables::{TableFault, VarInfo};
 
 /// What a mark adds to a name's counts.
@@ -48,8 +48,8 @@ impl<'t> NameSink for EachName<'t> {
 
     ghost place = { place_of };
 
-    fn take(&mut self, _n: u32, bearer: Record) -> Result<(), TableFault> {
-        mark_name(self.names, bearer.id(), self.at)
+    fn take(&mut self, bearer: Node<'_>) -> Result<(), TableFault> {
+        mark_name(self.names, bearer.record.id(), self.at)
     }
 }
 
@@ -78,8 +78,8 @@ impl<'t, 's, 'n> NameSink for FirstOfName<'t, 's, 'n> {
 
     ghost place = { place_of };
 
-    fn take(&mut self, _n: u32, bearer: Record) -> Result<(), TableFault> {
-        let id = bearer.id();
+    fn take(&mut self, bearer: Node<'_>) -> Result<(), TableFault> {
+        let id = bearer.record.id();
         if !self.seen.note(id) {
             return Ok(());
         }

@@ -1,9 +1,9 @@
 ghost use Rattle.std.specs.Prelude.{◌≡◌, ℕ};
 ghost use Rattle.rules.specs.Tree.{Head};
 ghost use Rattle.rules.specs.Refusals.{Outcome, Says};
-ghost use Rattle.records.specs.Reads.{head_of};
+ghost use Rattle.records.specs.Chains.{head_of_node};
 
-use records::Record;
+use records::Node;
 
 /// What takes names, one record that bears a name after another, until it refuses one.
 /// `State` is what it has come to, which `takes` leads on from; `number` and `place` are a fault as the book's refusal.
@@ -26,8 +26,8 @@ pub trait NameSink {
 
     ghost place: { Self.Fault → ℕ };
 
-    /// Takes the name that record `n` bears.
-    fn take(&mut self, n: u32, bearer: Record) -> Result<(), Self::Fault>
-        ensures names { Says (takes (head_of n bearer) (held self.old)) (λ _. held self.new) number place result }
+    /// Takes the name that a record bears.
+    fn take(&mut self, bearer: Node<'_>) -> Result<(), Self::Fault>
+        ensures names { Says (takes (head_of_node bearer.entry) (held self.old)) (λ _. held self.new) number place result }
         ensures stays { fixed self.new ≡ fixed self.old };
 }

@@ -36,7 +36,7 @@ pub(crate) fn walk<R: Rule, S: NameSink>(
 {
     for node in chain {
         if rule.gives(node.record) {
-            sink.take(node.number, node.record)?;
+            sink.take(node)?;
         }
         if let Some(inside) = rule.inside(node.record) {
             walk(node.below, inside, sink)?;

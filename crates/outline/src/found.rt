@@ -4,7 +4,7 @@ ghost use Rattle.std.specs.Vec.{vec_capacity};
 
 use crate::declared::Named;
 use names::NameSink;
-use records::Record;
+use records::Node;
 use std::alloc::{AllocError, Global};
 
 /// The names found so far, and how many there is room for.
@@ -59,11 +59,16 @@ impl NameSink for Found {
 
     ghost place = { λ _. 0 };
 
-    fn take(&mut self, n: u32, bearer: Record) -> Result<(), Full> {
+    fn take(&mut self, bearer: Node<'_>) -> Result<(), Full> {
         if self.names.len() >= self.room {
             return Err(Full);
         }
-        let id = bearer.id();
-        self.names.push(Named { id, record: n }).map_err(|_| Full)
+        let id = bearer.record.id();
+        self.names
+            .push(Named {
+                id,
+                record: bearer.number,
+            })
+            .map_err(|_| Full)
     }
 }
