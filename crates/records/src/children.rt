@@ -97,15 +97,17 @@ impl<'w> Children<'w> {
     pub fn first_flagged(self) -> bool
         ensures { result ≡ book.first_flagged (as_chain self.entry) }
     {
-        self.first().is_some_and(|node| node.record.flags == 1)
+        self.first().is_some_and(|node| node.record.is_flagged())
     }
 
+    // No option: who asks for the name has asked for the kind before, and the rules' own definition gives zeros too.
     /// The name of its first record; zeros where there is none.
     pub fn first_id(self) -> Id
         ensures { name_of_id result ≡ book.first_name (as_chain self.entry) }
     {
         self.first()
-            .map_or(Id { symbol: 0, mark: 0 }, |node| node.record.id())
+            .map(|node| node.record.id())
+            .unwrap_or_default()
     }
 }
 

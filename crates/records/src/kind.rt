@@ -229,6 +229,7 @@ impl Kind {
         self == Kind::FunctionExpression || self == Kind::ClassExpression
     }
 
+    // By words: of a derived order the check would have to be told, kind by kind, that it is the words' own.
     /// Whether the kind stands between two others, or is one of them.
     fn is_between(self, low: Kind, high: Kind) -> bool
         ensures { result ≡ within (kind_word low) (kind_word high) (kind_word self) }

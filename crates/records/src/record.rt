@@ -1,10 +1,11 @@
-ghost use Rattle.std.specs.Prelude.{◌≡◌, false, MatchOption};
+ghost use Rattle.std.specs.Prelude.{◌≡◌, ◌==◌, false, MatchOption};
 ghost use Rattle.rules.specs.Kinds.{within};
 ghost use Rattle.rules.specs.Words.{records, stands, tree_of, Whole};
 ghost use Rattle.rules.specs.Tree.Chain.{end};
 ghost use Rattle.records.specs.Cursor.{Opened};
 ghost use Rattle.records.specs.Reads.{Part, Reads, Starts};
 
+use crate::RECORD_WORDS;
 use crate::id::Id;
 use crate::kind::Kind;
 
@@ -32,19 +33,24 @@ impl Record {
     fn read(words: &[u32], n: u32) -> Option<Record>
         ensures { MatchOption result (stands words.now n ≡ false) (Reads words.now n) }
     {
-        let part = part_of(words, n)?;
-        let [kind, flags, symbol, mark, first, next] = part else {
-            return None;
-        };
-        let kind = Kind::try_from(*kind).ok()?;
+        let [kind, flags, symbol, mark, first, next] = *part_of(words, n)?;
+        let kind = Kind::try_from(kind).ok()?;
         Some(Record {
             kind,
-            flags: *flags,
-            symbol: *symbol,
-            mark: *mark,
-            first: *first,
-            next: *next,
+            flags,
+            symbol,
+            mark,
+            first,
+            next,
         })
+    }
+
+    // The field stays a word, since words that no check has seen may hold any.
+    /// Whether flag 1 is set.
+    pub fn is_flagged(self) -> bool
+        ensures { result ≡ (self.flags == 1) }
+    {
+        self.flags == 1
     }
 
     /// The name that the record bears.
@@ -59,20 +65,20 @@ impl Record {
 }
 
 /// The six words of record `n`, if they are there.
-fn part_of(words: &[u32], n: u32) -> Option<&[u32]>
+fn part_of(words: &[u32], n: u32) -> Option<&[u32; RECORD_WORDS]>
     ensures { MatchOption result (within 1 (records words.now) n ≡ false) (λ part. Part words.now n part.now) }
 {
-    let start = start_of(words, n)?;
-    Some(&words[start..start + 6])
+    let (rows, _) = words.as_chunks();
+    rows.get((n as usize).checked_sub(1)?)
 }
 
 /// Where record `n` begins, if its six words are there.
 pub(crate) fn start_of(words: &[u32], n: u32) -> Option<usize>
     ensures { MatchOption result (within 1 (records words.now) n ≡ false) (Starts words.now n) }
 {
-    let end = n as usize * 6;
+    let end = n as usize * RECORD_WORDS;
     if n == 0 || end > words.len() {
         return None;
     }
-    Some(end - 6)
+    Some(end - RECORD_WORDS)
 }

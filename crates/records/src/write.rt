@@ -6,14 +6,6 @@ use crate::kind::Kind;
 use crate::record::start_of;
 use crate::{FIRST, NEXT};
 
-const KIND: usize = 0;
-
-const FLAGS: usize = 1;
-
-const SYMBOL: usize = 2;
-
-const MARK: usize = 3;
-
 // Two names for two fields of `set_word`, which is the one text of both: a field among the parameters would say no more.
 /// Writes the link of record `n` to its first child; where there is no such record, nothing.
 pub fn set_first(words: &mut [u32], n: u32, link: u32)
@@ -33,10 +25,9 @@ pub fn set_next(words: &mut [u32], n: u32, link: u32)
 pub fn turn_into(words: &mut [u32], n: u32, kind: Kind)
     ensures { words.new ≡ turned words.old n (kind_word kind) }
 {
-    set_word(words, n, KIND, u32::from(kind));
-    set_word(words, n, FLAGS, 0);
-    set_word(words, n, SYMBOL, 0);
-    set_word(words, n, MARK, 0);
+    if let Some(start) = start_of(words, n) {
+        words[start..start + FIRST].copy_from_slice(&[u32::from(kind), 0, 0, 0]);
+    }
 }
 
 /// Writes word `i` of record `n`, if the record is there.
