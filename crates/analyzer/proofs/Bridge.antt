@@ -2,7 +2,7 @@
 -- What surrounds a place in the book is seen as the code holds it: of the scopes' paths, the names that hold a reference there, and whether the innermost is empty.
 -- What is found in a part of the tree is entered into a state; one part after another is entered one after another.
 use Rattle.std.specs.Prelude.{if◌then◌else◌}
-use Rattle.std.proofs.Math.Bool.{or-false}
+use Rattle.std.proofs.Math.Bool.{or-false, or_assoc}
 use Rattle.std.proofs.Common.{◌≡◌, Bool, true, false, ◌&&◌, ◌||◌, eqb, List, [], ◌∷◌, ◌++◌, length, sym, refl, ap, ◌∙◌, append_assoc, arith}
 use Rattle.std.proofs.lemmas.Bool.{ne_eqb}
 use Rattle.rules.specs.Tree.{Head, Chain, Name, ◌is◌, name_of, unnumbered_head}
@@ -32,10 +32,6 @@ and_then_assoc (refused number at) f g = refl
 pub and_then_fine : {A : Type 0} (o : Outcome A) → and_then o (λ a. fine a) ≡ o
 and_then_fine (fine a) = refl
 and_then_fine (refused number at) = refl
-
-or_assoc : (a b c : Bool) → (a || (b || c)) ≡ ((a || b) || c)
-or_assoc true b c = refl
-or_assoc false b c = refl
 
 -- the innermost scope has put no name on its path
 abbrev pub first_empty : List (List Name) → Bool
@@ -139,8 +135,8 @@ entering_then f g s =
     let both : Tables → Outcome State = λ v. fine (noted v (a || (f.found_arguments || g.found_arguments)) (e || (f.found_direct_eval || g.found_direct_eval))) in
     let last : Tables → Outcome State = λ v. fine (noted v ((a || f.found_arguments) || g.found_arguments) ((e || f.found_direct_eval) || g.found_direct_eval)) in
     let alike : (v : Tables) → both v ≡ last v = λ v.
-    ap (λ (x : Bool). fine (noted v x (e || (f.found_direct_eval || g.found_direct_eval)))) (or_assoc a f.found_arguments g.found_arguments)
-    ∙ ap (λ (x : Bool). fine (noted v ((a || f.found_arguments) || g.found_arguments) x)) (or_assoc e f.found_direct_eval g.found_direct_eval) in
+    ap (λ (x : Bool). fine (noted v x (e || (f.found_direct_eval || g.found_direct_eval)))) (sym (or_assoc a f.found_arguments g.found_arguments))
+    ∙ ap (λ (x : Bool). fine (noted v ((a || f.found_arguments) || g.found_arguments) x)) (sym (or_assoc e f.found_direct_eval g.found_direct_eval)) in
     ap (λ (o : Outcome Tables). and_then o both) (fill_joins f.events g.events s.tables)
     ∙ and_then_assoc (fill_words f.events s.tables) (λ u. fill_words g.events u) both
     ∙ and_then_alike (fill_words f.events s.tables) (λ u. and_then (fill_words g.events u) both) (λ u. and_then (fill_words g.events u) last)

@@ -1,33 +1,19 @@
 -- The declared table, filled name by name in words, is the book's.
 -- A name that has a row leaves the words as they are; another gets the first free row or is refused. Both sides go on alike, so they agree on any list of names.
 use Rattle.std.specs.Prelude.{if◌then◌else◌}
-use Rattle.std.proofs.Common.{◌≡◌, ℕ, ◌/◌, Bool, true, false, List, [], ◌∷◌, ◌++◌, length, Some, None, Ok, Err, Option, Result, sym, refl, subst, MatchResult}
+use Rattle.std.proofs.Common.{◌≡◌, ℕ, ◌/◌, Bool, true, false, List, [], ◌∷◌, ◌++◌, length, Some, None, Ok, Err, Option, sym, refl, subst}
 use Rattle.rules.specs.Tree.{Head, Name, name_of}
 use Rattle.rules.specs.Names.{same}
 use Rattle.rules.specs.Refusals.{Outcome, and_then, declared_full}
 use Rattle.rules.specs.Refusals.Outcome.{fine, refused}
 use Rattle.rules.specs.Tables.{declared_width, need, declare}
-use Rattle.tables.specs.declared.fault.TableFault.{TableFault}
+use Rattle.rules.proofs.Declared.{Signed}
 use Rattle.tables.specs.declared.fault.TableFault.TheVariants.{Declared}
-use Rattle.tables.specs.Faults.{number, place}
 use Rattle.tables.specs.Living.{rows, free, first_row, added}
 use Rattle.tables.specs.Matching.{DeclaredHeld, Needed, id_keyed, id_words}
 use Rattle.tables.proofs.Matched.{declared_needed}
 use Rattle.names.specs.Sinks.{each}
 use Rattle.analyzer.specs.Declaring.{told, declare_row, declare_words}
-use Rattle.analyzer.proofs.Named.{Symbols}
-
--- what a table answered and left is told
-told_itself : (r : Result ℕ TableFault) (words : List ℕ) → MatchResult r (λ _. told r words ≡ fine words) (λ e. told r words ≡ refused (number e) (place e))
-told_itself (Ok n) words = refl
-told_itself (Err e) words = refl
-
-pub told_as : (r x : Result ℕ TableFault) (words more : List ℕ) → r ≡ x → words ≡ more
-    → MatchResult r (λ _. told x more ≡ fine words) (λ e. told x more ≡ refused (number e) (place e))
-told_as r x words more rx wm =
-    subst (λ (m : List ℕ). MatchResult r (λ _. told x m ≡ fine words) (λ e. told x m ≡ refused (number e) (place e))) wm
-    (subst (λ (y : Result ℕ TableFault). MatchResult r (λ _. told y words ≡ fine words) (λ e. told y words ≡ refused (number e) (place e))) rx
-    (told_itself r words))
 
 -- the words are those of the rows, or both are refused alike
 abbrev pub Agree : (found : List ℕ) → Outcome (List ℕ) → Outcome (List Name) → Type 0
@@ -62,7 +48,7 @@ step found h ns words None f g held needed on =
     (λ some. ((needed.1 some).0, (needed.1 some).1)) needed.2 (on (ns ++ (name_of h ∷ [])) (added declared_width (id_words (name_of h)) words))
 
 -- the words agree with the book's rows on any list of names
-pub declares_agree : (found : List ℕ) (hs : List Head) (ns : List Name) (words : List ℕ) → Symbols hs → DeclaredHeld found ns words
+pub declares_agree : (found : List ℕ) (hs : List Head) (ns : List Name) (words : List ℕ) → Signed hs → DeclaredHeld found ns words
     → Agree found (each declare_words hs words) (declare (length found / declared_width) hs ns)
 declares_agree found [] ns words all held = held
 declares_agree found (h ∷ hs) ns words all held =

@@ -1,5 +1,4 @@
 mod Declares
-mod Named
 mod Fills
 mod Paths
 mod Walks

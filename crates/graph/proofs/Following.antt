@@ -93,29 +93,6 @@ merged {w} s k rest k_in some under from seen few drop =
       settled = s.settled;
     }
 
--- the node whose turn it is has no edge left: the search goes back
-pub backed : {w : Walking}
-    → Search w → 0 < w.at → get_or w.turns (get_or w.stack (w.at - 1) 0) 0 ≡ 0
-    → Search (record w { at = get_or w.back (w.at - 1) 0 })
-backed {w} s some none =
-    let low = s.walked.lower (w.at - 1) (omega (arith, s.walked.within)) in
-    record {
-      star = s.star;
-      links_long = s.links_long;
-      sized = s.sized;
-      stacked = s.stacked;
-      walked = record {
-        within = omega (arith, s.walked.within);
-        above = λ p ge h. grind (arith, none, s.walked.between (w.at - 1) p, s.walked.above p);
-        lower = s.walked.lower;
-        between = s.walked.between;
-      };
-      chained = s.chained;
-      bordered = s.bordered;
-      followed = s.followed;
-      settled = s.settled;
-    }
-
 -- each node on the stack leads to the one whose turn it is, and on along its edge
 pub reached : {w : Walking}
     → Search w

@@ -88,9 +88,6 @@ fair_tail ks part way f =
 pub fair_append : (ks : List ℕ) (a b : List Way) → fair ks a ≡ true → fair ks b ≡ true → fair ks (a ++ b) ≡ true
 fair_append ks a b f g = list_all-append (fair_way ks) a b ∙ and_from (fair ks a) (fair ks b) f g
 
-pub fair_cond : (ks : List ℕ) (b : Bool) (way : Way) → fair_way ks way ≡ true → fair ks (cond b (way ∷ []) []) ≡ true
-fair_cond ks b way f = grind arith
-
 pub fair_on : (ks : List ℕ) (k : ℕ) (way : Way) → fair_way ks way ≡ true → fair ks (go_on k way) ≡ true
 fair_on ks k [] f = refl
 fair_on ks k (one sort ∷ way) f = grind (arith, fair_tail ks (one sort) way)

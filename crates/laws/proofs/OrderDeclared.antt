@@ -3,20 +3,18 @@
 --
 --   declared_names, declared_sizes         rows from the same names
 --   Symbols, symbols_declared              rows whose first word is not 0
---   has_symbol                             a record of a named kind has a symbol
+--   signed_symbols                         records that have a symbol
 --   symbols_of_tree                        the rows of a tree formed by the table of kinds
 use Rattle.std.specs.Prelude.{if◌then◌else◌}
-use Rattle.std.proofs.Common.{◌≡◌, ℕ, Bool, true, false, ◌||◌, eqb, List, [], ◌∷◌, ◌++◌, length, sym, refl, ap, ◌∙◌, subst, arith}
+use Rattle.std.proofs.Common.{◌≡◌, Bool, true, false, ◌||◌, eqb, List, [], ◌∷◌, length, sym, refl, ap, ◌∙◌, subst, arith}
 use Rattle.std.proofs.lemmas.Bool.Decides.{nat_tests}
 use Rattle.rules.specs.Tree.{Head, Chain, Name, name_of}
-use Rattle.rules.specs.Tree.Chain.{end, link}
-use Rattle.rules.specs.Kinds.{specifier, fn_declaration, class_declaration, member}
-use Rattle.rules.specs.Grammar.{named, words_fit, Way, children_of, step, root}
+use Rattle.rules.specs.Grammar.{root}
 use Rattle.rules.specs.Held.{Formed}
-use Rattle.rules.specs.Names.{same, among, names_of, binds, keep, Under, under_nothing, under, declares, declaring, declared}
+use Rattle.rules.specs.Names.{same, among, names_of, under_nothing, declared}
 use Rattle.rules.specs.Tables.{some_row}
+use Rattle.rules.proofs.Declared.{Signed, declaring_signed}
 use Rattle.rules.proofs.SameNames.{same_eq, same_laws}
-use Rattle.laws.proofs.Basics.{all_member}
 use Rattle.laws.proofs.TablesRows.{with_row, some_with_row}
 use Rattle.laws.proofs.TablesSizes.{Single, single_none, single_with_row, equal_sizes}
 use Rattle.laws.proofs.TablesRoom.{all_declared}
@@ -60,32 +58,10 @@ symbols_declared : (hs : List Head) (rows : List Name) → Symbols (names_of hs)
 symbols_declared [] rows p q = q
 symbols_declared (h ∷ hs) rows p q = symbols_declared hs (with_row (same (name_of h)) (name_of h) rows) p.1 (symbols_with (name_of h) (same (name_of h)) rows p.0 q)
 
--- a record of a named kind has a symbol
-has_symbol : (h : Head) → words_fit h ≡ true → named h.kind ≡ true → eqb h.symbol 0 ≡ false
-has_symbol h w q = grind (arith, nat_tests)
-
-declarations_named : (k : ℕ) → member k (specifier ∷ fn_declaration ∷ class_declaration ∷ []) ≡ true → named k ≡ true
-declarations_named k = all_member named k (specifier ∷ fn_declaration ∷ class_declaration ∷ []) refl
-
-binders_named : (h : Head) → binds h ≡ true → named h.kind ≡ true
-binders_named h e = grind (arith, nat_tests)
-
-declares_symbol : (u : Under) (h : Head) → words_fit h ≡ true → declares u h ≡ true → eqb h.symbol 0 ≡ false
-declares_symbol u h p e = grind (arith, nat_tests, has_symbol h p, declarations_named h.kind, binders_named h)
-
-symbols-++ : (xs ys : List Head) → Symbols (names_of xs) → Symbols (names_of ys) → Symbols (names_of (xs ++ ys))
-symbols-++ [] ys p q = q
-symbols-++ (x ∷ xs) ys p q = (p.0, symbols-++ xs ys p.1 q)
-
-symbols_keep : (b : Bool) (h : Head) (hs : List Head) → (b ≡ true → eqb h.symbol 0 ≡ false) → Symbols (names_of hs) → Symbols (names_of (keep b h hs))
-symbols_keep true h hs p q = (p refl, q)
-symbols_keep false h hs p q = q
-
-symbols_declaring : (u : Under) (ways : List Way) (c : Chain) → Formed ways c → Symbols (names_of (declaring u c))
-symbols_declaring u ways end f = tt
-symbols_declaring u ways (link h cs rest) f =
-    symbols_keep (declares u h) h (declaring (under u h) cs ++ declaring u rest) (declares_symbol u h f.0)
-    (symbols-++ (declaring (under u h) cs) (declaring u rest) (symbols_declaring (under u h) (children_of h) cs f.2) (symbols_declaring u (step h.kind ways) rest f.3))
+-- records that have a symbol, by their names
+signed_symbols : (hs : List Head) → Signed hs → Symbols (names_of hs)
+signed_symbols [] s = tt
+signed_symbols (h ∷ hs) s = (grind (arith, nat_tests, s.0), signed_symbols hs s.1)
 
 pub symbols_of_tree : (c : Chain) → Formed root c → Symbols (all_declared (declared c) [])
-symbols_of_tree c f = symbols_declared (declared c) [] (symbols_declaring under_nothing root c f) tt
+symbols_of_tree c f = symbols_declared (declared c) [] (signed_symbols (declared c) (declaring_signed root under_nothing c f)) tt

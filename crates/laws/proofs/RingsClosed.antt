@@ -9,8 +9,8 @@ use Rattle.rules.specs.Tables.{NameRow, EdgeRow, Counts, some_row, fresh, look}
 use Rattle.rules.specs.Rings.{component, closed}
 use Rattle.rules.specs.Rings.Leads.{here}
 use Rattle.rules.proofs.Leading.{component_told}
+use Rattle.rules.proofs.SameNames.{look_name}
 use Rattle.laws.proofs.TablesEdges.{some_edge}
-use Rattle.laws.proofs.RingsDiscount.{look_name}
 
 -- a name is of its own component
 own_component : (edges : List EdgeRow) (n : Name) → among n (component edges n) ≡ true

@@ -1,6 +1,5 @@
 -- What the discounts leave of a name's row: its own row, discounted where the name stands in a closed ring; of a missing row, nothing.
 --
---   look_name                   the row that is read bears the name
 --   look_discount               a name's row after the rings are discounted
 --   open_row, counted_row       outside closed rings it is as counted; it is counted where it was
 use Rattle.std.specs.Prelude.{if◌then◌else◌}
@@ -9,12 +8,8 @@ use Rattle.rules.specs.Tree.{Name}
 use Rattle.rules.specs.Names.{same}
 use Rattle.rules.specs.Tables.{NameRow, Counts, fresh, look}
 use Rattle.rules.specs.Rings.{closed, discount_row, discount_rows, discount}
-use Rattle.rules.proofs.SameNames.{same_eq}
+use Rattle.rules.proofs.SameNames.{look_name}
 use Rattle.laws.proofs.TablesFilled.{some_name}
-
-pub look_name : (n : Name) (rows : List NameRow) → (look n rows).name ≡ n
-look_name n [] = refl
-look_name n (r ∷ rs) = grind (arith, look_name n rs, same_eq n r.name)
 
 -- a discounted row keeps its name
 name_kept : (c : Counts) (r : NameRow) → (discount_row c r).name ≡ r.name

@@ -1,10 +1,9 @@
 -- Names marked as they come are the book's marks, entered one after another into the words of names and edges; a mark has no holder, so edges stay.
 -- Where memory has room for every name that comes, marking those that were not noted is marking each once.
-use Rattle.std.proofs.Common.{◌≡◌, ℕ, ◌+◌, ◌-◌, ◌≤◌, Bool, true, false, List, [], ◌∷◌, ◌++◌, length, Ok, Err, Result, refl, ap, ◌∙◌, ⊎_elim, arith, length-append}
+use Rattle.std.proofs.Common.{◌≡◌, ℕ, ◌-◌, ◌≤◌, true, false, List, [], ◌∷◌, length, Ok, Err, Result, refl, ap, ◌∙◌, ⊎_elim, arith}
 use Rattle.std.proofs.lemmas.Bool.{cases_Bool, lt-ltb}
-use Rattle.rules.specs.Tree.{Head, Name, Chain, name_of, reached}
-use Rattle.rules.specs.Tree.Chain.{end, link}
-use Rattle.rules.specs.Names.{among, names_of, distinct, keep, Under, under, declares, declaring}
+use Rattle.rules.specs.Tree.{Head, Name, name_of}
+use Rattle.rules.specs.Names.{among, names_of, distinct}
 use Rattle.rules.specs.Counting.{Event, marked, marks}
 use Rattle.rules.specs.Refusals.{Outcome, and_then, Says}
 use Rattle.rules.specs.Refusals.Outcome.{fine, refused}
@@ -45,20 +44,6 @@ once_marked (h ∷ hs) s seen edges noted room =
     (λ names. fine (more names)) (λ u. each mark_once hs u) (λ u. fine (tables u.names edges))
     (λ names. once_marked hs (more names) (n ∷ seen) edges refl (omega arith))))
     (cases_Bool (among n seen))
-
--- a chain has no more names than records
-keep_length : (wanted : Bool) (h : Head) (hs : List Head) → length (keep wanted h hs) ≤ 1 + length hs
-keep_length true h hs = omega arith
-keep_length false h hs = omega arith
-
-pub few_declared : (u : Under) (c : Chain) → length (declaring u c) ≤ reached c
-few_declared u end = omega arith
-few_declared u (link h children rest) =
-    let one = keep_length (declares u h) h (declaring (under u h) children ++ declaring u rest) in
-    let both = length-append (declaring (under u h) children) (declaring u rest) in
-    let below = few_declared (under u h) children in
-    let after = few_declared u rest in
-    omega arith
 
 -- what the code answers, where an outcome goes on with what it comes to
 pub says_on : {A B V E : Type 0} (f : A → B) (o : Outcome A) (p : Outcome B) (a : A) (number at : E → ℕ) (r : Result V E)

@@ -1,9 +1,9 @@
 -- The names of a tree find room: it declares no more of them than it has records.
-use Rattle.std.proofs.Common.{◌≡◌, ℕ, ◌+◌, ◌<◌, ◌≤◌, Bool, true, false, List, [], ◌∷◌, ◌++◌, length, arith, length-append, append_assoc, append-nil, ap, ◌∙◌}
+use Rattle.std.proofs.Common.{◌≡◌, ℕ, ◌+◌, ◌<◌, ◌≤◌, List, [], ◌∷◌, ◌++◌, length, arith, length-append, append_assoc, append-nil, ap, ◌∙◌}
 use Rattle.std.proofs.lemmas.Bool.{lt-ltb}
-use Rattle.rules.specs.Names.{Under, keep, declares, declaring, declared, under, under_nothing}
+use Rattle.rules.specs.Names.{declared, under_nothing}
+use Rattle.rules.proofs.Declared.{few_declared}
 use Rattle.rules.specs.Tree.{Head, Chain, reached}
-use Rattle.rules.specs.Tree.Chain.{end, link}
 use Rattle.rules.specs.Refusals.Outcome.{fine, refused}
 use Rattle.names.specs.Sinks.{each}
 use Rattle.outline.specs.declared.declared.Named.{Named}
@@ -17,22 +17,6 @@ all_taken room (h ∷ hs) names fits =
     let less : length names < room = omega arith in
     let more = all_taken room hs (names ++ named_of h ∷ []) (omega (arith, length-append names (named_of h ∷ []))) in
     rw (lt-ltb (length names) room less) (more ∙ ap (λ ns. fine (holds room ns)) (append_assoc names (named_of h ∷ []) (names_of hs)))
-
-kept : (wanted : Bool) (h : Head) (hs : List Head) → length (keep wanted h hs) ≤ 1 + length hs
-kept true h hs = omega arith
-kept false h hs = omega arith
-
--- each record declares one name at most
-pub few_declared : (u : Under) (c : Chain) → length (declaring u c) ≤ reached c
-few_declared u end = omega arith
-few_declared u (link h children rest) =
-    omega (
-      arith,
-      kept (declares u h) h (declaring (under u h) children ++ declaring u rest),
-      length-append (declaring (under u h) children) (declaring u rest),
-      few_declared (under u h) children,
-      few_declared u rest,
-    )
 
 -- so those of a tree are, where there is room for its records
 module _ {room : ℕ} {names : List Named} {lent tree : Chain} (none : names ≡ []) (counted : room ≡ reached tree) (same : lent ≡ tree) where

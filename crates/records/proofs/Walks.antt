@@ -1,21 +1,16 @@
--- A walk through a chain by `any` or `all`: what it answers, and that a node it comes to nests as deep as the chain says.
+-- A walk through a chain by `any` or `all`: what it answers.
 --
---   yields_left        the nodes of a chain nest as deep as the first
 --   Tests              what a call of the closure says at a node
 --   any_is, all_is     a recursion through the chain is what `any` or `all` answers, if it asks of each record what the closure does
 use Rattle.std.proofs.Common.{◌≡◌, Bool, true, false, ◌&&◌, ◌||◌, List, [], ◌∷◌, Some, None, Option, sym, ap, ◌∙◌, subst, MatchOption}
 use Rattle.std.specs.List.{FoldsTo}
-use Rattle.std.specs.Iterator.{Yields, YieldsThen, ChecksAll, ChecksAny}
+use Rattle.std.specs.Iterator.{YieldsThen, ChecksAll, ChecksAny}
 use denote.Param.Members.{Mut, Called}
 use Rattle.rules.specs.Tree.{Head, Chain}
 use Rattle.rules.specs.Tree.Chain.{end, link}
 use Rattle.records.specs.Chains.{as_chain, head_of_node, GivesNode, Steps}
 use Rattle.records.specs.declared.children.Children.{Children}
 use Rattle.records.specs.declared.children.Node.{Node}
-
-pub yields_left : (xs : List Node) (s t : Children) → Yields GivesNode s xs t → t.left ≡ s.left
-yields_left [] s t y = sym (ap (λ (c : Children). c.left) y)
-yields_left (x ∷ xs) s t y = yields_left xs y.0 t y.2 ∙ y.1.level
 
 -- what a call of the closure says at a node of the chain: the test of the record, its children and what follows
 abbrev pub Tests : {F : Type 0} → Mut F (Node × Unit {0}) Bool → F → (Head → Chain → Chain → Bool) → Type 0

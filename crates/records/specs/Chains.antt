@@ -8,7 +8,7 @@ use Rattle.rules.specs.Tree.{Head, Chain}
 use Rattle.rules.specs.Tree.Chain.{end, link}
 use Rattle.rules.specs.Words.{tree_of}
 use Rattle.rules.specs.Opening.{siblings}
-use Rattle.records.specs.Reads.{head_of}
+use Rattle.records.specs.Reads.{head_of, Reads}
 use Rattle.records.specs.declared.children.Children.{Children}
 use Rattle.records.specs.declared.children.Node.{Node}
 
@@ -23,6 +23,7 @@ head_of_node n = head_of n.number n.record
 -- the node is the first of the chain s, and t is what follows it; its children nest less
 pub record Steps (s : Children) (n : Node) (t : Children) : Type 0 where
   pub is : as_chain s ≡ link (head_of_node n) (as_chain n.below) (as_chain t)
+  pub reads : Reads s.words.now n.number n.record
   pub here : n.chain ≡ s
   pub number : (n.number ≡ s.at) × (1 ≤ n.number)
   pub words : (t.words.now ≡ s.words.now) × (n.below.words.now ≡ s.words.now)

@@ -29,7 +29,7 @@ pub struct Node<'w> {
 }
 
 impl<'w> Children<'w> {
-    ghost use Rattle.std.specs.Prelude.{◌≡◌, MatchOption};
+    ghost use Rattle.std.specs.Prelude.{◌≡◌, ◌≤◌, IfSome, MatchOption};
     ghost use Rattle.rules.specs.Tree as book;
     ghost use Rattle.rules.specs.Tree.Chain.{end, link};
     ghost use Rattle.records.specs.Chains.{as_chain, head_of_node};
@@ -58,21 +58,26 @@ impl<'w> Children<'w> {
 
     /// Its first record.
     pub fn first(mut self) -> Option<Node<'w>>
-        ensures { MatchOption result (as_chain self.entry ≡ end) (λ n. as_chain self.entry ≡ link (head_of_node n) (as_chain n.below) (book.after (as_chain self.entry))) }
+        ensures chain { MatchOption result (as_chain self.entry ≡ end) (λ n. as_chain self.entry ≡ link (head_of_node n) (as_chain n.below) (book.after (as_chain self.entry))) }
+        ensures within { IfSome result (λ n. (n.below.words.now ≡ self.entry.words.now) × (n.below.left ≤ self.entry.left)) }
     {
         self.next()
     }
 
     /// The children of its first record; none where there is no record.
     pub fn below(self) -> Children<'w>
-        ensures { as_chain result ≡ book.below (as_chain self.entry) }
+        ensures chain { as_chain result ≡ book.below (as_chain self.entry) }
+        ensures words { result.words.now ≡ self.entry.words.now }
+        ensures left { result.left ≤ self.entry.left }
     {
         self.first().map_or(self, |node| node.below)
     }
 
     /// What follows its first record.
     pub fn after(self) -> Children<'w>
-        ensures { as_chain result ≡ book.after (as_chain self.entry) }
+        ensures chain { as_chain result ≡ book.after (as_chain self.entry) }
+        ensures words { result.words.now ≡ self.entry.words.now }
+        ensures left { result.left ≡ self.entry.left }
     {
         let mut rest = self;
         let _ = rest.next();

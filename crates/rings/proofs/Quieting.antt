@@ -49,20 +49,6 @@ abbrev pub Followed : (P : ℕ → Type 0) → (labels : List ℕ) → (label li
 Followed P labels label link =
     (link ≤ length labels) × ((v : ℕ) → link ≡ v + 1 → get_or labels v 0 ≡ label) × ((v : ℕ) → link ≤ v → v < length labels → get_or labels v 0 ≡ label → P v)
 
-pub followed_more : (P : ℕ → Type 0) (labels : List ℕ) (label link w next : ℕ) → link ≡ w + 1 → Followed P labels label link
-    → Latest labels (get_or labels w 0) w next → P w → Followed P labels label next
-followed_more P labels label link w next at f m here =
-    let is : get_or labels w 0 ≡ label = f.1 w at in
-    let room = f.0 in
-    let low = m.before in (
-      omega arith,
-      (λ v e. m.labelled v e ∙ is),
-      (λ v a b e. ⊎_elim
-          (λ (same : v ≡ w). subst P (sym same) here)
-          (λ (off : v ≡ w → ⊥). ⊎_elim (λ (below : v < w). absurd (m.none v a below (e ∙ sym is))) (λ (above : w ≤ v). f.2 v (omega arith) b e) (cases_lt v w))
-          (cases_eq v w)),
-    )
-
 -- a node that is no entry and not marked
 abbrev pub Calm : (entered : ℕ → Bool) → (labels marks : List ℕ) → ℕ → Type 0
 Calm entered labels marks v = (entered v ≡ false) × (get_or marks v 0 ≡ 0)

@@ -1,10 +1,9 @@
--- A graph that is refused is that of no count that fits the work memory; and which names keep their counts.
-use Rattle.std.proofs.Common.{◌≡◌, ℕ, ◌+◌, ◌*◌, ◌^◌, ◌<◌, ◌≤◌, false, not, eqb, List, length, get_or, sym, ap, ◌∙◌, ⊎_elim, arith}
+-- A graph that is refused is that of no count that fits the work memory.
+use Rattle.std.proofs.Common.{◌≡◌, ℕ, ◌+◌, ◌*◌, ◌^◌, ◌<◌, ◌≤◌, eqb, List, length, get_or, sym, ap, ◌∙◌, ⊎_elim, arith}
 use Rattle.std.proofs.lemmas.Map.Steps.{le-length_from_below}
 use Rattle.std.proofs.lemmas.List.Folds.{list_any_at}
-use Rattle.std.proofs.lemmas.Bool.{cond-false, eq-eqb, and_left, and_right, not_from_true}
+use Rattle.std.proofs.lemmas.Bool.{eq-eqb}
 use Rattle.rules.specs.Tables.{Counts, names_width}
-use Rattle.rules.specs.Rings.{component, has_other, has_entry, led_into, closed, less}
 use Rattle.tables.specs.Living.{used}
 use Rattle.tables.specs.Matching.{name_words}
 use Rattle.tables.proofs.Holding.{holds_used}
@@ -15,7 +14,7 @@ use Rattle.graph.specs.declared.fault.GraphFault.TheVariants.{TooLarge, NoRoom, 
 use Rattle.rings.specs.Ringed.{Ready}
 use Rattle.rings.specs.Closing.{node, pairs}
 use Rattle.rings.specs.Joining.{joins}
-use Rattle.rings.specs.Spending.{Discounted, Subtracted, NotEnough, PassedOver}
+use Rattle.rings.specs.Spending.{Discounted, Subtracted, NotEnough}
 use Rattle.rings.proofs.Naming.{node_within, edge_row}
 use Rattle.rings.proofs.Joined.{held_count, joins_held}
 
@@ -74,12 +73,3 @@ pub discounted_subtracted : (names edges labels : List ℕ) (count : ℕ) (after
     → Discounted names edges labels count after → Subtracted names edges after
 discounted_subtracted names edges labels count after long told done c found found' ready =
     done c found found' ready (long ∙ ready_nodes names edges c found found' ready) told
-
-pub passed_over : PassedOver
-passed_over c r =
-    let ring = component c.edges r.name in
-    let keeps = λ (g : closed c r.name ≡ false). cond-false (closed c r.name) (less ring c.edges r) r g in (
-      (λ h. keeps (and_left (has_other r.name ring) _ h)),
-      (λ h. keeps (and_right (has_other r.name ring) _ (and_left (not (has_entry c ring)) (not (led_into c ring)) (not_from_true (has_entry c ring) h)))),
-      (λ h. keeps (and_right (has_other r.name ring) _ (and_right (not (has_entry c ring)) (not (led_into c ring)) (not_from_true (led_into c ring) h)))),
-    )

@@ -4,3 +4,4 @@ pub mod Sounds
 pub mod Reading
 pub mod SameNames
 pub mod Leading
+pub mod Declared

@@ -3,7 +3,7 @@
 -- read whole, more fuel reads the same, and so the chain at a record is made of the chains at its two links.
 --
 --   read_back, tree_is_read                        what the words hold is what `tree_of` reads
---   tree_end, whole_end                            the link 0
+--   tree_end                                       the link 0
 --   opens                                          the link to a record
 --   level_depth, tree_depth                        how deep a checked tree is
 use Rattle.std.proofs.Common.{◌≡◌, ℕ, zero, suc, ◌+◌, ◌≤◌, max, true, List, sym, refl, ap, ◌∙◌, ap₂, ⊎_elim, arith}
@@ -52,10 +52,6 @@ tree_is_read words c e = let t = check_sound words c e in read_back words 1 c t.
 pub tree_end : (words : List ℕ) (n : ℕ) → n ≡ 0 → tree_of words n ≡ end
 unfolding tree_of
 tree_end words n z = chain_end words (records words) n z
-
-pub whole_end : (words : List ℕ) (n : ℕ) → n ≡ 0 → Whole words n
-unfolding Whole
-whole_end words n z = rw (tree_end words n z) z
 
 -- the two links of a chain that was read
 linked : (words : List ℕ) (left n : ℕ) → 1 ≤ n → Holds words n (chain_of words (suc left) n) →

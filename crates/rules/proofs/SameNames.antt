@@ -1,9 +1,10 @@
--- Two names are one exactly if the test says so.
+-- Two names are one exactly if the test says so; so the row that is looked at for a name bears it.
 use Rattle.std.specs.Cmp.{IsEquivalence, decided}
-use Rattle.std.proofs.Common.{◌≡◌, true, eqb, refl}
+use Rattle.std.proofs.Common.{◌≡◌, true, eqb, List, [], ◌∷◌, refl, arith}
 use Rattle.std.proofs.lemmas.Bool.{and_parts, and_from, eqb-true, eq-eqb}
 use Rattle.rules.specs.Tree.{Name}
 use Rattle.rules.specs.Names.{same}
+use Rattle.rules.specs.Tables.{NameRow, look}
 
 pub same_eq : (a b : Name) → same a b ≡ true → a ≡ b
 same_eq a b h =
@@ -18,3 +19,8 @@ same_refl a = and_from _ _ (eq-eqb a.symbol a.symbol refl) (eq-eqb a.mark a.mark
 -- so it is an equivalence
 pub same_laws : IsEquivalence same
 same_laws = decided same (λ a b. (same_eq a b, λ e. rw e (same_refl b)))
+
+-- the row that is looked at bears the name
+pub look_name : (n : Name) (rows : List NameRow) → (look n rows).name ≡ n
+look_name n [] = refl
+look_name n (r ∷ rs) = grind (arith, look_name n rs, same_eq n r.name)

@@ -1,12 +1,11 @@
 -- A row that comes into a table or changes there leaves its length and the words past its last whole row, so zeroing leaves the same as before.
-use Rattle.std.proofs.Common.{◌≡◌, ℕ, suc, ◌+◌, ◌-◌, ◌*◌, ◌/◌, ◌≤◌, true, false, ltb, leb, List, [], ◌++◌, length, take, drop, replicate, Some, None, Option, sym, refl, ap, ◌∙◌, ⊎_elim, mul-le-mul_right, suc-mul, div-mul-le_self, arith, length-append, length-drop, length-set, length-take-le, drop-drop}
+use Rattle.std.proofs.Common.{◌≡◌, ℕ, suc, ◌+◌, ◌-◌, ◌*◌, ◌/◌, ◌≤◌, true, false, ltb, leb, List, [], ◌++◌, length, take, drop, replicate, sym, ap, ◌∙◌, ⊎_elim, mul-le-mul_right, suc-mul, div-mul-le_self, arith, length-append, length-drop, length-set, length-take-le, drop-drop}
 use lib.ListN.{length-replicate}
 use lib.Seq.{drop-append-add, drop-append_seam}
 use Rattle.std.proofs.lemmas.Bool.{cond-true, cond-false, cases_Bool, ltb-true, leb-true, and_parts}
 use Rattle.rules.specs.Calls.{zeroed}
 use Rattle.tables.specs.declared.name_row.Flag.{Flag}
 use Rattle.tables.specs.Living.{used, free, there, start_of, put_row, added}
-use Rattle.tables.specs.Inserting.{placed}
 use Rattle.tables.specs.Held.{changed}
 use Rattle.tables.specs.Counts.{more_counts, less_counts, with_flag}
 
@@ -49,13 +48,6 @@ added_zeroed w row t whole =
     (put_behind (used w t * w) (length t / w * w) row t (omega arith) all))
     (λ (f : free w t ≡ false). ap (zeroed w) (cond-false (free w t) (put_row (used w t * w) row t) t f))
     (cases_Bool (free w t))
-
-placed_by : (w : ℕ) (row t : List ℕ) (o : Option ℕ) → length row ≡ w → zeroed w (placed w row t o) ≡ zeroed w t
-placed_by w row t (Some n) whole = refl
-placed_by w row t None whole = added_zeroed w row t whole
-
-pub placed_zeroed : (w : ℕ) (row t u : List ℕ) (o : Option ℕ) → length row ≡ w → u ≡ placed w row t o → zeroed w u ≡ zeroed w t
-placed_zeroed w row t u o whole e = ap (zeroed w) e ∙ placed_by w row t o whole
 
 -- a row that changes and stays as long
 changed_puts : (w n : ℕ) (to : List ℕ → List ℕ) (t : List ℕ) → ((row : List ℕ) → length (to row) ≡ length row) → there w t n ≡ true

@@ -1,11 +1,10 @@
 -- The rows of words that begin with a whole row, and of words too short for one.
 -- Every other fact on rows follows from these three: a loop takes row after row off the front, and a table is built row by row.
-use Rattle.std.proofs.Common.{◌≡◌, ℕ, zero, suc, ◌+◌, ◌-◌, ◌*◌, ◌/◌, ◌<◌, ◌≤◌, true, eqb, ltb, leb, ◌⊎◌, List, [], ◌∷◌, ◌++◌, length, get_or, take, drop, sym, refl, ap, ap₂, ◌∙◌, inl, inr, ⊎_elim, suc-mul, div-le_self, div-mul-le_self, add-one, arith}
+use Rattle.std.proofs.Common.{◌≡◌, ℕ, zero, suc, ◌+◌, ◌-◌, ◌/◌, ◌<◌, ◌≤◌, eqb, ◌⊎◌, List, [], ◌∷◌, ◌++◌, length, get_or, take, drop, sym, refl, ap, ap₂, ◌∙◌, inl, inr, ⊎_elim, div-le_self, add-one, arith}
 use native.Mathlib.Nat.{add-div_left, div-eq_of_lt}
-use Rattle.std.proofs.lemmas.Nat.{mul-le}
 use Rattle.std.proofs.lemmas.List.{take_at, drop_at, length-append, take-append-drop, length-take-le, get_or-take}
-use Rattle.std.proofs.lemmas.Bool.{eq-eqb, ne_eqb, cond_both, cases_lt, and_from, lt-ltb, le-leb}
-use Rattle.tables.specs.Living.{cut, before_zero, rows, there, start_of}
+use Rattle.std.proofs.lemmas.Bool.{eq-eqb, ne_eqb, cond_both, cases_lt}
+use Rattle.tables.specs.Living.{cut, before_zero, rows}
 
 -- words with a row before them have one whole row more
 one_more : (w : ℕ) (r t : List ℕ) → 0 < w → length r ≡ w → length (r ++ t) / w ≡ suc (length t / w)
@@ -85,21 +84,3 @@ module _ (w s : ℕ) (t r : List ℕ) (some : 0 < w) (is : s ≡ w) (front : r �
         ap (rows w) (sym (take-append-drop s t) ∙ ap₂ ◌++◌ (sym front) (sym back)) ∙ rows_cons w r u some long (omega arith),
         long,
       )
-
--- a whole row lies within the words; `s` is the width as the code has it
-pub row_fits : (w s n : ℕ) (t : List ℕ) → s ≡ w → 0 < n → n ≤ length t / s → (n - 1) * s + s ≤ length t
-row_fits w s zero t e p h = absurd (omega arith)
-row_fits w s (suc n) t e p h =
-    let a = mul-le (suc n) s (length t / s) s h (omega arith) in
-    let b = div-mul-le_self (length t) s in
-    let c = suc-mul n s in
-    let d = ap (λ x. x * s) (let q : suc n - 1 ≡ n = omega arith in q) in
-    omega arith
-
--- such a row is there, and begins where its number says
-pub row_there : (w s n : ℕ) (t : List ℕ) → s ≡ w → 0 < n → n ≤ length t / s
-    → (there w t n ≡ true) × ((n - 1) * s ≡ start_of w n) × ((n - 1) * s + w ≤ length t)
-row_there w s n t e p h =
-    let fits = row_fits w s n t e p h in
-    let q = ap (λ x. length t / x) e in
-    (and_from (ltb 0 n) (leb n (length t / w)) (lt-ltb 0 n p) (le-leb n (length t / w) (omega arith)), ap (λ x. (n - 1) * x) e, omega arith)

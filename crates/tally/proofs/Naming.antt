@@ -2,20 +2,20 @@
 -- and every event's name, and each of its holders, is the name of such a record.
 --
 --   AllNamed                       each event's name and holders have a symbol
---   symbol_of                      a record of a kind that bears a name
---   Signed, exported_signed ..     records that have a symbol
+--   bound_signed, exported_signed  records that have a symbol
 --   count_named, events_named      the events of a chain, and of a tree
 use Rattle.std.specs.Prelude.{if◌then◌else◌}
-use Rattle.std.proofs.Common.{◌≡◌, ℕ, ◌<◌, Bool, true, false, not, ◌&&◌, ◌||◌, eqb, List, [], ◌∷◌, ◌++◌, sym, refl, ◌∙◌, subst, ⊎_elim, arith}
-use Rattle.std.proofs.lemmas.Bool.{cond_both, cond-true, and_parts, or_cases, eqb-true, eqb-false, not-true, both_ways}
+use Rattle.std.proofs.Common.{◌≡◌, ℕ, ◌<◌, Bool, true, false, ◌&&◌, ◌||◌, List, [], ◌∷◌, ◌++◌, refl, ⊎_elim}
+use Rattle.std.proofs.lemmas.Bool.{cond_both, or_cases}
 use Rattle.rules.specs.Tree.{Head, Chain, Name, ◌is◌, name_of}
 use Rattle.rules.specs.Tree.Chain.{end, link}
-use Rattle.rules.specs.Kinds.{member, known, definition_expression, specifier, export_declaration, fn_declaration, class_declaration, identifier, export_name, property_name, name_pattern, call_expression, var_declaration, declarator, function}
-use Rattle.rules.specs.Names.{among, names_of, distinct, binds, nests, keep, bound, Under, under, under_nothing, declares, declaring, declared_below, exported}
+use Rattle.rules.specs.Kinds.{export_declaration, fn_declaration, class_declaration, identifier, export_name, property_name, name_pattern, call_expression, var_declaration, declarator, function}
+use Rattle.rules.specs.Names.{among, names_of, distinct, binds, nests, bound, under, under_nothing, declared_below, exported}
 use Rattle.rules.specs.Counting.{Event, Found, nothing, Role, Around, outermost, holders, put, refer, reference, reading, writing, readings, marks, named_here, own, opens, leave, inside, count, events_of}
 use Rattle.rules.specs.Counting.Role.{declared_here, written, read_and_written}
-use Rattle.rules.specs.Grammar.{Way, named, name_fits, flags_fit, words_fit, children_of, step, root}
+use Rattle.rules.specs.Grammar.{Way, words_fit, children_of, step, root}
 use Rattle.rules.specs.Held.{Formed, Tree}
+use Rattle.rules.proofs.Declared.{kind_named, Signed, signed-++, signed_keep, binds_signed, declaring_signed}
 use Rattle.tables.specs.Matching.{Named}
 
 -- each event's name and holders have a symbol
@@ -25,40 +25,9 @@ AllNamed (e ∷ es) = (0 < e.name.symbol) × Named e.holders × AllNamed es
 
 -- RECORDS
 
-positive : (n : ℕ) → not (eqb n 0) ≡ true → 0 < n
-positive n h = let q = eqb-false n 0 (not-true (eqb n 0) h) in omega arith
-
-name_part : (h : Head) → words_fit h ≡ true → name_fits h ≡ true
-name_part h w = (and_parts (known h.kind && flags_fit h) (name_fits h) w).1
-
--- a record of a kind that bears a name has a symbol
-symbol_of : (h : Head) → words_fit h ≡ true → named h.kind ≡ true → 0 < h.symbol
-symbol_of h w b = positive h.symbol (sym (cond-true (named h.kind) _ _ b) ∙ name_part h w)
-
--- a kind that bears names
-kind_named : (h : Head) (k : ℕ) → h is k ≡ true → named k ≡ true → words_fit h ≡ true → 0 < h.symbol
-kind_named h k e b w = symbol_of h w (subst (λ (x : ℕ). named x ≡ true) (sym (eqb-true h.kind k e)) b)
-
--- each record has a symbol
-abbrev Signed : List Head → Type 0
-Signed [] = Unit {0}
-Signed (h ∷ hs) = (0 < h.symbol) × Signed hs
-
-signed-++ : (xs ys : List Head) → Signed xs → Signed ys → Signed (xs ++ ys)
-signed-++ [] ys p q = q
-signed-++ (x ∷ xs) ys p q = (p.0, signed-++ xs ys p.1 q)
-
-signed_keep : (b : Bool) (h : Head) (hs : List Head) → (b ≡ true → 0 < h.symbol) → Signed hs → Signed (keep b h hs)
-signed_keep true h hs f s = (f refl, s)
-signed_keep false h hs f s = s
-
 signed_if : (b : Bool) (hs : List Head) → Signed hs → Signed (if b then hs else [])
 signed_if true hs s = s
 signed_if false hs s = tt
-
-binds_signed : (h : Head) → words_fit h ≡ true → binds h ≡ true → 0 < h.symbol
-binds_signed h w b =
-    ⊎_elim (λ e. kind_named h name_pattern e refl w) (λ e. kind_named h property_name e refl w) (or_cases (h is name_pattern) (h is property_name) b)
 
 bound_signed : (ways : List Way) (c : Chain) → Formed ways c → Signed (bound c)
 bound_signed ways end f = tt
@@ -81,32 +50,6 @@ exported_signed ways (link h children rest) f =
     let inner = if into then exported children else [] in
     signed_keep (h is fn_declaration || h is class_declaration || binds h) h (inner ++ exported rest) (exports h f.0)
     (signed-++ inner (exported rest) (signed_if into (exported children) (exported_signed (children_of h) children f.2)) (exported_signed (step h.kind ways) rest f.3))
-
-member_named : (h : Head) (a b c : ℕ) → named a ≡ true → named b ≡ true → named c ≡ true → words_fit h ≡ true → member h.kind (a ∷ b ∷ c ∷ []) ≡ true → 0 < h.symbol
-member_named h a b c na nb nc w m =
-    ⊎_elim (λ e. kind_named h a e na w)
-    (λ m'. ⊎_elim (λ e. kind_named h b e nb w)
-    (λ m''. ⊎_elim (λ e. kind_named h c e nc w) (λ z. absurd (both_ways false refl z)) (or_cases (h is c) false m''))
-    (or_cases (h is b) (h is c || false) m'))
-    (or_cases (h is a) (h is b || (h is c || false)) m)
-
-declares_signed : (u : Under) (h : Head) → words_fit h ≡ true → declares u h ≡ true → 0 < h.symbol
-declares_signed u h w d =
-    let listed = member h.kind (specifier ∷ fn_declaration ∷ class_declaration ∷ []) in
-    let bears = not (eqb h.symbol 0) in
-    ⊎_elim
-    (λ d'. ⊎_elim
-    (λ m. member_named h specifier fn_declaration class_declaration refl refl refl w m)
-    (λ b. binds_signed h w (and_parts u.binding (binds h) b).1)
-    (or_cases listed (u.binding && binds h) d'))
-    (λ b. positive h.symbol (and_parts (u.default && definition_expression h.kind) bears b).1)
-    (or_cases (listed || (u.binding && binds h)) (u.default && definition_expression h.kind && bears) d)
-
-declaring_signed : (ways : List Way) (u : Under) (c : Chain) → Formed ways c → Signed (declaring u c)
-declaring_signed ways u end f = tt
-declaring_signed ways u (link h children rest) f =
-    signed_keep (declares u h) h (declaring (under u h) children ++ declaring u rest) (declares_signed u h f.0)
-    (signed-++ (declaring (under u h) children) (declaring u rest) (declaring_signed (children_of h) (under u h) children f.2) (declaring_signed (step h.kind ways) u rest f.3))
 
 -- NAMES
 

@@ -12,19 +12,16 @@ use Rattle.std.proofs.lemmas.Bool.{cond_both, and_parts, leb-true}
 use Rattle.rules.specs.Tree.{Head, Chain, Name, ◌is◌, name_of, reached}
 use Rattle.rules.specs.Tree.Chain.{end, link}
 use Rattle.rules.specs.Kinds.{export_declaration, fn_declaration, class_declaration, identifier, export_name, property_name, name_pattern, call_expression, var_declaration, declarator, function, within}
-use Rattle.rules.specs.Names.{among, names_of, distinct, binds, nests, keep, bound, Under, under, under_nothing, declares, declaring, declared_below, exported}
+use Rattle.rules.specs.Names.{among, names_of, distinct, binds, nests, bound, under, under_nothing, declared_below, exported}
 use Rattle.rules.specs.Counting.{Event, Found, nothing, Role, Around, outermost, holders, put, reference, reading, writing, readings, marks, named_here, own, opens, leave, inside, count}
 use Rattle.rules.specs.Counting.Role.{declared_here, written, read_and_written}
 use Rattle.rules.specs.Check.{most_tree_words}
 use Rattle.rules.specs.Held.{Level}
+use Rattle.rules.proofs.Declared.{keep_length, few_declared}
 use Rattle.rules.proofs.Sizes.{size_most}
 use Rattle.tally.specs.Tallies.{weight, CountsFit}
 
 -- LISTS
-
-keep_length : (b : Bool) (h : Head) (hs : List Head) → length (keep b h hs) ≤ suc (length hs)
-keep_length true h hs = omega arith
-keep_length false h hs = omega arith
 
 if_length : (b : Bool) (hs : List Head) → length (if b then hs else []) ≤ length hs
 if_length true hs = omega arith
@@ -48,17 +45,6 @@ exported_length (link h children rest) =
       if_length inside (exported children),
       exported_length children,
       exported_length rest,
-    )
-
-declaring_length : (u : Under) (c : Chain) → length (declaring u c) ≤ reached c
-declaring_length u end = omega arith
-declaring_length u (link h children rest) =
-    omega (
-      arith,
-      keep_length (declares u h) h (declaring (under u h) children ++ declaring u rest),
-      length-append (declaring (under u h) children) (declaring u rest),
-      declaring_length (under u h) children,
-      declaring_length u rest,
     )
 
 names_length : (hs : List Head) → length (names_of hs) ≡ length hs
@@ -155,7 +141,7 @@ leave_weight h children found =
       weight_marks h.number names,
       distinct_length [] (names_of (declared_below h children)),
       names_length (declared_below h children),
-      declaring_length (under under_nothing h) children,
+      few_declared (under under_nothing h) children,
       if_events (found.found_arguments && h is function) (marks h.number (names_of (bound children))),
       weight_marks h.number (names_of (bound children)),
       names_length (bound children),

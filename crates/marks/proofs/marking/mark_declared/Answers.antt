@@ -1,9 +1,10 @@
 use Rattle.std.proofs.Common.{[], arith, rules}
 use Rattle.rules.specs.Names.{under, under_nothing, declaring}
+use Rattle.rules.proofs.Declared.{few_declared}
 use Rattle.records.specs.Chains.{as_chain, head_of_node}
 use Rattle.data.specs.Events.{tables}
 use Rattle.marks.specs.Marking.{Once, once}
-use Rattle.marks.proofs.Marks.{once_marked, few_declared, says_on}
+use Rattle.marks.proofs.Marks.{once_marked, says_on}
 use Rattle.marks.proofs.marking.mark_declared.Goals as goal
 
 pub returns-clause-marks : goal.returns-clause-marks

@@ -1,12 +1,8 @@
 use Rattle.std.proofs.Common.{sym, ap, subst, arith}
 use Rattle.graph.specs.Searching.{walking}
-use Rattle.graph.proofs.Following.{backed}
 use Rattle.graph.proofs.Stepping.{Steps, after_edge, target_reached, steps_in, target_merged, steps_on}
 use Rattle.graph.proofs.walk.Walk.follow.Goals as goal
 use Rattle.graph.proofs.walk.Walk.follow.Goals.{then-place-eq0, else-place-eq0}
-
-pub invariant_of-self : goal.invariant_of-self
-invariant_of-self g c = backed c.self.invariant (omega (arith, rw (← c.self.view_is) at c.requires.under)) c.if-turn-eq0.true
 
 pub enter-requires-clause-reached : goal.enter-requires-clause-reached
 enter-requires-clause-reached g c = rw (← c.self.view_is) (target_reached c.self.invariant (rw (← c.self.view_is) at c.requires.some) (rw (← c.self.view_is) at c.requires.under) (omega arith) c.edge-target.result.1 (ap (λ p. p.1) c.edge-target.ensures))

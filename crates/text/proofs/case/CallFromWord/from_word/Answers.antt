@@ -3,16 +3,6 @@ use Rattle.std.proofs.lemmas.Slice.Eq.{text_from_reads}
 use Rattle.text.specs.Lines.{call}
 use Rattle.text.proofs.case.CallFromWord.from_word.Goals as goal
 
-pub returns-in-begin : goal.returns-in-begin
-returns-in-begin c =
-    ap call (sym (text_from_reads c.args.word.now (codes "begin") (omega arith)
-    (omega arith, (omega arith, (omega arith, (omega arith, (omega arith, tt)))))))
-
-pub returns-in-reset : goal.returns-in-reset
-returns-in-reset c =
-    ap call (sym (text_from_reads c.args.word.now (codes "reset") (omega arith)
-    (omega arith, (omega arith, (omega arith, (omega arith, (omega arith, tt)))))))
-
 pub returns-in-repeat : goal.returns-in-repeat
 returns-in-repeat c =
     ap call (sym (text_from_reads c.args.word.now (codes "repeat") (omega arith)
