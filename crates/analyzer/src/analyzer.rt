@@ -9,6 +9,7 @@ use records::{Id, MOST_NESTING};
 #[derive(Drop)]
 pub(crate) struct Analyzer<'t> {
     pub(crate) scope: Scope,
+    // How much of it is in use lies in `scope`, which a guard puts back.
     pub(crate) path: [Id; MOST_NESTING],
     // Two tables side by side: lent within a struct of their own, the check loses what they are when the loan ends.
     pub(crate) names: &'t mut [u32],

@@ -1,22 +1,19 @@
 ghost use Rattle.std.specs.Prelude.{◌≡◌, ℕ, ◌/◌, ◌≤◌, true, false, List, [], length, MatchResult};
 ghost use Rattle.rules.specs.Calls.{zeroed, declared_after};
 ghost use Rattle.rules.specs.Calls as book;
-ghost use Rattle.rules.specs.Check.{most_nesting};
 ghost use Rattle.rules.specs.Held.{Tree};
 ghost use Rattle.rules.specs.Names.{declared};
-ghost use Rattle.rules.specs.Opening.{depth};
 ghost use Rattle.rules.specs.Refusals.{Says};
 ghost use Rattle.rules.specs.Refusals.Outcome.{fine};
 ghost use Rattle.records.specs.Chains.{as_chain};
 ghost use Rattle.rules.specs.Tables.{Room, declared_width, read_declared};
 ghost use Rattle.rules.specs.Tree.{Chain};
-ghost use Rattle.rules.specs.Words.{tree_of, Whole};
 ghost use Rattle.names.specs.Sinks.{each};
 ghost use Rattle.tables.specs.Faults.{number as number_of, place as place_of};
 ghost use Rattle.analyzer.specs.Declaring.{declare_key, declare_words, FilledDeclared, FullDeclared};
 
 use names::{NameSink, declared_names};
-use records::{Children, Id, MOST_NESTING, Node, ROOT};
+use records::{Children, Id, Node};
 use tables::{BookRow, Declared, TableFault, has_row, zero_rows};
 
 /// The table of the declared names, as names come to it.
@@ -75,17 +72,16 @@ fn is_filled(table: &[u32]) -> bool
 }
 
 /// Fills the table of the declared names from the tree, unless it has a row. A table that is too short is left without rows.
-pub fn fill_declared(words: &[u32], table: &mut [u32]) -> Result<(), TableFault>
-    requires tree { Tree words.now (tree_of words.now 1) }
-    requires whole { Whole words.now 1 }
-    requires deep { depth (tree_of words.now 1) ≤ most_nesting }
-    ensures { MatchResult result (λ _. FilledDeclared (tree_of words.now 1) table.old table.new) (λ e. FullDeclared (tree_of words.now 1) (number_of e) (place_of e) table.old table.new) }
+pub fn fill_declared(tree: Children<'_>, table: &mut [u32]) -> Result<(), TableFault>
+    requires { Tree tree.words.now (as_chain tree) }
+    ensures { MatchResult result (λ _. FilledDeclared (as_chain tree.entry) table.old table.new) (λ e. FullDeclared (as_chain tree.entry) (number_of e) (place_of e) table.old table.new) }
 {
     if is_filled(table) {
         return Ok(());
     }
     zero_rows::<Declared>(table);
-    match collect_decls(Children::within(words, ROOT, MOST_NESTING), table) {
+    // No `inspect_err`: of a table that a closure writes to, a proof has no name for what is left.
+    match collect_decls(tree, table) {
         Ok(()) => Ok(()),
         Err(fault) => {
             zero_rows::<Declared>(table);

@@ -3,6 +3,7 @@ ghost use Rattle.analyzer.specs.declared.fault.CountFault.TheVariants.{Table};
 
 use tables::TableFault;
 
+// A rule of the project: each step has an error of its own, in which that of the step below it stands.
 /// Why a count stops.
 #[derive(Clone, Copy, PartialEq, Eq, Debug)]
 pub enum CountFault {

@@ -109,7 +109,7 @@ impl Role {
     {
         if node.kind == Kind::Declarator {
             Role::Declared
-        } else if node.kind == Kind::Assignment && node.flags == 1 {
+        } else if node.kind == Kind::Assignment && node.is_flagged() {
             Role::ReadAndWritten
         } else if node.kind == Kind::CompoundPattern || node.kind == Kind::DefaultPattern {
             self

@@ -32,7 +32,7 @@ impl Plain {
         matches!(
             node.kind,
             Kind::ClassExpression | Kind::Call | Kind::Delete | Kind::Assignment
-        ) || (node.kind == Kind::PlainExpression && node.flags == 1)
+        ) || (node.kind == Kind::PlainExpression && node.is_flagged())
             || (node.kind == Kind::Identifier && node.mark == self.unresolved)
     }
 

@@ -53,6 +53,7 @@ impl<'t> NameSink for EachName<'t> {
     }
 }
 
+// A sink of its own: one for both would pass names on to a second sink, and be no shorter.
 /// Marks each name that comes for the first time; the scope `at` marks it. `seen` holds the names that came.
 #[derive(Drop)]
 struct FirstOfName<'t, 's, 'n> {

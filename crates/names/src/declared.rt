@@ -35,6 +35,7 @@ pub fn declared_below<S: NameSink>(node: Node<'_>, sink: &mut S) -> Result<(), S
 
 /// What surrounds a chain, as far as declaring goes: its patterns bind, or it is the child of an Export default.
 /// It gives the names that are declared.
+// Two flags, as the definition has them: for an enum it would have to be shown that no record sets both.
 #[derive(Clone, Copy)]
 struct Surrounding {
     binding: bool,

@@ -24,6 +24,7 @@ pub(crate) trait Rule: Copy {
         ensures { (n : ℕ) → result ≡ inside self (head_of n parent) };
 }
 
+// Here and at the walks by one rule, what a sink takes and what it keeps are two clauses: a word for both would take nine parameters.
 /// Hands the names that a rule gives in a chain and below it on to the sink, in walk order.
 #[tactic(auto, using(crate::proofs::Joining::each_joins))]
 pub(crate) fn walk<R: Rule, S: NameSink>(

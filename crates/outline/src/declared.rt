@@ -34,9 +34,8 @@ impl CheckedTree {
 impl fmt::Display for Named {
     /// Writes the name and its record.
     fn fmt<W: fmt::Write>(&self, f: &mut fmt::Formatter<W>) -> fmt::Result {
-        let symbol = self.id.symbol;
-        let mark = self.id.mark;
+        let id = self.id;
         let record = self.record;
-        write!(f, "declares {symbol}:{mark} by record {record}")
+        write!(f, "declares {id} by record {record}")
     }
 }

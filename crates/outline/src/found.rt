@@ -7,6 +7,7 @@ use names::NameSink;
 use records::Node;
 use std::alloc::{AllocError, Global};
 
+// Room and a fault of its own, since what a sink answers is a function of what it holds, which a failed allocation is not.
 /// The names found so far, and how many there is room for.
 #[derive(Drop)]
 pub(crate) struct Found {

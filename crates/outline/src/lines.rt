@@ -55,24 +55,20 @@ impl fmt::Display for OutlineLine {
             f.write_str("  ")?;
         }
         let number = self.number;
-        let Record {
-            kind,
-            flags,
-            symbol,
-            mark,
-            first: _,
-            next: _,
-        } = self.record;
+        let record = self.record;
+        let kind = record.kind;
+        let id = record.id();
         write!(f, "{number} {kind}")?;
-        if flags == 1 {
+        if record.is_flagged() {
             f.write_str(" (flag 1)")?;
         }
-        if symbol == 0 {
+        if id.symbol == 0 {
             Ok(())
         } else if kind == Kind::Literal {
-            write!(f, " text {symbol}")
+            let text = id.symbol;
+            write!(f, " text {text}")
         } else {
-            write!(f, " {symbol}:{mark}")
+            write!(f, " {id}")
         }
     }
 }

@@ -10,7 +10,8 @@ ghost use Rattle.tables.specs.Matching.{EdgesWords, EdgesFound, EdgesNeeded, Edg
 use crate::fault::TableFault;
 use crate::row::Row;
 
-// Each table's `need` is the generic one: what the book says of its answer is proved for each table.
+// Each table's `need` is the generic one: what the book says of its answer is proved for each table. A law in its place would
+// want that proof among the specifications.
 /// Rows that the book knows too.
 pub trait BookRow: Row {
     ghost needed: { Self.Key → ℕ → List ℕ → List ℕ → Result ℕ TableFault → Type 0 };

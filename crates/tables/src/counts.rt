@@ -77,6 +77,7 @@ pub trait Counted: Row {
         Some(VarInfo::read(&table[start..start + Self::WIDTH]))
     }
 
+    // Adding and subtracting are two texts: one for both would take the change as a function, and the clause about that is longer.
     /// Adds to the counts of a row, modulo 2^32.
     final fn add(table: &mut [u32], row: usize, by: VarInfo)
         ensures words { table.new ≡ changed Self.WIDTH row (more_counts by.usage by.assign) table.old }

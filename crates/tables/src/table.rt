@@ -32,6 +32,7 @@ pub fn has_row<R: Row>(table: &[u32]) -> bool
     Rows::<R>::of(table).next().is_some()
 }
 
+// Where it begins, and not its words: half of those who ask read them, and half write.
 /// Where the row of this number begins, if it is one of the whole rows.
 pub fn row_start<R: Row>(table: &[u32], number: usize) -> Option<usize>
     ensures { MatchOption result (there R.WIDTH table.now number ≡ false) (λ s. (there R.WIDTH table.now number ≡ true) × (s ≡ start_of R.WIDTH number) × (s + R.WIDTH ≤ length table.now)) }
@@ -74,6 +75,8 @@ pub fn insert<R: Row>(table: &mut [u32], key: R::Key, at: u32) -> Result<usize, 
     Ok(free.number)
 }
 
+// What stays behind the rows is a clause of each writer, and no struct's: what counts holds tables in a struct of its own,
+// and of words lent within a struct in a struct the check does not know what they are when the loan ends.
 /// The number of the row with the key, which is put behind the last row if it is not there. `at` is the record that needs it.
 pub fn need<R: Row>(table: &mut [u32], key: R::Key, at: u32) -> Result<usize, TableFault>
     ensures row { result ≡ answered R.WIDTH (R.full at) table.old (first_row (keyed R.Key.eq R.key_of key) (rows R.WIDTH table.old)) }
