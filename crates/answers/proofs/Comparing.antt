@@ -1,10 +1,10 @@
 -- Two texts: what they begin with alike, and the line that a place of one is in.
-use Rattle.std.proofs.Common.{◌≡◌, ℕ, suc, ◌+◌, ◌-◌, ◌≤◌, not, List, [], ◌∷◌, ◌++◌, length, take, drop, arith, refl, ap, sym, ◌∙◌, inl, inr, length-drop, take-append-drop}
+use Rattle.std.proofs.Common.{◌≡◌, ℕ, suc, ◌+◌, ◌-◌, ◌≤◌, not, List, [], ◌∷◌, ◌++◌, length, take, drop, arith, refl, ap, sym, ◌∙◌, inl, inr, length-drop, take-append-drop, Bor}
 use Rattle.std.proofs.Math.Seq.{take-append-add}
 use Rattle.std.proofs.lemmas.List.{drop-append-le, length-take-le}
 use Rattle.std.proofs.lemmas.List.Sums.{suffix_len-le-length}
 use Rattle.std.proofs.lemmas.Bool.{cases_eq, eq-eqb, ne_eqb}
-use Rattle.std.specs.Prelude.{slice_get}
+use Rattle.std.specs.Prelude.{slice_get, ◌≢◌, Option, Some, None, Result, Ok, Err, MatchOption, MatchResult, IfErr, IsErrAnd}
 use Rattle.std.specs.List.{position_or_len, suffix_len}
 use Rattle.answers.specs.Differing.{line_around, shared, is_line_feed}
 
@@ -50,3 +50,11 @@ part_around text place before behind within is-before is-behind =
     let tail : drop (place - before) text ≡ zs ++ ys = ap (drop (place - before)) (sym (take-append-drop place text)) ∙ drop-append-le (place - before) xs ys (omega arith) in
     let size : place + behind - (place - before) ≡ length zs + behind = omega (arith, length-drop (place - before) xs) in
     rw (tail, size, take-append-add zs ys behind, is-before, is-behind, long)
+
+-- the rest where the first begins with the second, and else what is learnt of the difference
+pub told_by : {D : Type 0} (stored found : List ℕ) (o : Option (Bor (List ℕ))) (r : Result (Bor (List ℕ)) D) (Learnt : D → Type 0)
+    → MatchOption o ((rest : List ℕ) → stored ≢ found ++ rest) (λ x. stored ≡ found ++ x.now) → MatchOption o (IsErrAnd r Learnt) (λ x. r ≡ Ok x)
+    → MatchResult r (λ x. stored ≡ found ++ x.now) (λ _. (rest : List ℕ) → stored ≢ found ++ rest) × IfErr r (λ d. ((rest : List ℕ) → stored ≢ found ++ rest) × Learnt d)
+told_by stored found None (Ok x) Learnt is gives = absurd gives
+told_by stored found None (Err d) Learnt is gives = (is, (is, gives))
+told_by stored found (Some x) r Learnt is gives = rw gives (is, tt)

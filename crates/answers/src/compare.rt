@@ -17,10 +17,8 @@ pub fn agreed<'a>(stored: &'a [u8], found: &'a [u8]) -> Result<&'a [u8], Differe
     ensures rest { MatchResult result (λ rest. stored.now ≡ found.now ++ rest.now) (λ _. ((rest : List ℕ) → stored.now ≢ found.now ++ rest)) }
     ensures first { IfErr result (Differs stored.now found.now) }
 {
-    match stored.strip_prefix(found) {
-        Some(rest) => Ok(rest),
-        None => Err(first_difference(stored, found)),
-    }
+    let rest = stored.strip_prefix(found);
+    rest.ok_or_else(|| first_difference(stored, found))
 }
 
 /// The first line that differs.

@@ -13,6 +13,7 @@ pub struct TableText<'t, R> {
     of: PhantomData<R>,
 }
 
+// By hand, since a derive asks `Drop` of `R`.
 impl<R> Drop for TableText<'_, R> {
     fn drop(self) {
         let TableText { words: _, of: _ } = self;

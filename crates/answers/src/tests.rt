@@ -11,22 +11,22 @@ fn answers_are_told(rt: HostRuntime) -> Result<(), Fail> {
     let link = Refusal::from(CheckFault::Link(9));
     let full = Refusal::from(TableFault::Edges(4));
     let answers = [
-        (Answer::Begun, "begin ok"),
-        (Answer::BeginRefused(link), "begin refused 2 9"),
-        (Answer::Reset, "reset ok"),
-        (Answer::Passed { changed: true }, "pass ok 1"),
-        (Answer::PassRefused(full), "pass refused 7 4"),
+        (Answer::Begin(Ok(())), "begin ok"),
+        (Answer::Begin(Err(link)), "begin refused 2 9"),
+        (Answer::Reset(Ok(())), "reset ok"),
+        (Answer::Pass(Ok(true)), "pass ok 1"),
+        (Answer::Pass(Err(full)), "pass refused 7 4"),
         (
-            Answer::Repeated {
+            Answer::Repeat {
                 passes: 2,
-                reached: 30,
+                reached: Ok(30),
             },
             "repeat ok 2 30",
         ),
         (
-            Answer::RepeatRefused {
-                refusal: full,
+            Answer::Repeat {
                 passes: 1,
+                reached: Err(full),
             },
             "repeat refused 7 4 1",
         ),

@@ -30,6 +30,7 @@ impl CheckFault {
         }
     }
 
+    // No `Option`: the format of a refusal has a number there, and record 0 is none.
     /// The link or record at which it shows; 0 where there is none.
     pub fn place(self) -> u32
         ensures { result ≡ place self }
@@ -41,6 +42,7 @@ impl CheckFault {
     }
 }
 
+// By hand, with `Error`: by `number` and `place` it is one `write!`, and a derive would say the numbers again.
 impl fmt::Display for CheckFault {
     /// Writes the refusal's number, its record, and a sentence.
     fn fmt<W: fmt::Write>(&self, f: &mut fmt::Formatter<W>) -> fmt::Result {

@@ -41,6 +41,7 @@ fn thin<F: Fn(&[u32], u32) -> Option<u32>>(words: &mut [u32], slot: usize, heir:
     ensures { (left : Chain → Chain) → Thins (F.post heir) left → Turns left words.old words.new slot }
 {
     let mut at = slot;
+    // It follows the links of words that it changes, which no iterator over them can.
     while words[at] != 0 {
         at = match heir(words, words[at]) {
             Some(v) => lift(words, at, v),

@@ -31,7 +31,7 @@ pub fn label<E: Edges>(edges: &E, work: &mut [u32], labels: &mut [u32]) -> Resul
     let (stack, rest) = rest.split_at_mut(nodes);
     let (borders, rest) = rest.split_at_mut(nodes);
     let (places, links) = rest.split_at_mut(nodes);
-    link(edges, turns, links).map_err(GraphFault::NoSuchNode)?;
+    link(edges, turns, links)?;
     places.fill(0);
     // The labels' words serve the walk too, but hold no places: of words lent to a struct with a model the check knows only the length.
     let mut walk = Walk {

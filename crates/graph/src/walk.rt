@@ -136,6 +136,7 @@ impl<'a, 'b, E: Edges> Walk<'a, 'b, E> {
         ensures onward { Onward self.old self.new }
     {
         self.enter(root);
+        // No iterator: a step changes the words that tell which is next, and may be the last.
         while self.depth > 0 {
             self.step();
         }

@@ -19,6 +19,8 @@ struct Turn {
     changed: bool,
 }
 
+// Words and a slot are two parameters and no struct: the words are the caller's, and what a slot links to is known of them only until a write.
+
 /// Treats the chain that the slot links to, each record after its children, and says whether something was removed.
 #[cycle(treating)]
 pub fn treat<B: Basis>(basis: &B, place: Place, words: &mut [u32], slot: usize, left: usize) -> bool

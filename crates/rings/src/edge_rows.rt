@@ -29,6 +29,7 @@ impl NodeEdge {
     }
 }
 
+// A struct: a `map` over the rows has the type of its function, which a result cannot name.
 /// The edges of a table in their order.
 #[derive(Drop)]
 pub struct NodeEdges<'t> {

@@ -11,6 +11,7 @@ pub fn mark_closed(names: &[u32], by_label: ByLabel<'_, '_>, marks: &[u32], clos
     requires marks_long { length marks.now ≡ length by_label.labels.now }
     ensures { Ruled (entered_at names.now) by_label.entry.labels.now marks.now closed.new (length closed.old) }
 {
+    // A rule of docs/DECISIONS.md: nested loops tell both facts of a ring at once, left by a label at the first that speaks against it.
     'cycles: for (cycle, ruled) in closed.iter_mut().enumerate() {
         *ruled = 0;
         if by_label.nodes(cycle).nth(1).is_none() {

@@ -2,10 +2,12 @@
 // declares, or why it is refused.
 #![tactic(auto)]
 
+ghost use Rattle.std.specs.Prelude.{◌≡◌, IfOk, Ok};
+
 use outline::CheckedTree;
 use std::io;
 use std::io::Read;
-use text::{Case, Cases};
+use text::{Case, Cases, TextFault};
 
 fn main(rt: HostRuntime) -> anyhow::Result<()> {
     let mut text = Vec::new(rt.alloc());
@@ -16,16 +18,20 @@ fn main(rt: HostRuntime) -> anyhow::Result<()> {
 // Prints each case of the text; bad text is reported with its line, and ends the program.
 fn shake(rt: &HostRuntime, text: &[u8]) -> anyhow::Result<()> {
     let mut cases = Cases::new(text);
-    loop {
-        match cases.next_case(rt.alloc()) {
-            Ok(Some(case)) => print_case(rt, case)?,
-            Ok(None) => return Ok(()),
-            Err(fault) => {
-                eprintln!(rt; "shake: {fault}")?;
-                return Err(fault.into());
-            }
-        }
+    while let Some(case) = reported(rt, cases.next_case(rt.alloc()))? {
+        print_case(rt, case)?;
     }
+    Ok(())
+}
+
+// What was read of the next case, if there is one; what is wrong with the text is reported.
+fn reported(rt: &HostRuntime, read: Result<Option<Case>, TextFault>) -> anyhow::Result<Option<Case>>
+    ensures { IfOk result (λ found. read ≡ Ok found) }
+{
+    if let Err(fault) = &read {
+        eprintln!(rt; "shake: {fault}")?;
+    }
+    Ok(read?)
 }
 
 // Prints what the check finds of a case's tree.

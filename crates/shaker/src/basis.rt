@@ -13,6 +13,7 @@ use records::Children;
 pub trait Basis {
     ghost by: { Self → By };
 
+    // `had` is one bit: what was found is gone when the verdict falls, and whether there was any is all that is left of it.
     /// What the rules do with the first record of the chain, whose children are treated; `had` tells whether it was found with children.
     fn verdict(&self, place: Place, had: bool, chain: Children<'_>) -> Verdict
         ensures { (found : Chain) → had ≡ not (is_end found) → result ≡ choice (by self.now) (place_of place) found (as_chain chain.entry) };

@@ -30,6 +30,7 @@ impl Verdict {
     }
 }
 
+// Words and a slot are two parameters and no struct: the words are the caller's, and what a slot links to is known of them only until a write.
 /// Does what the verdict says to the record that the slot links to, and returns the slot that follows.
 pub fn perform(words: &mut [u32], slot: usize, verdict: Verdict) -> usize
     requires { LinksRecord words.old slot }

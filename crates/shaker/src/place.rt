@@ -57,6 +57,7 @@ impl Place {
         self.parent == Some(kind)
     }
 
+    // `asm` and `last` are two parameters, here and below: they are facts of their own, and the rules' definition takes both.
     /// Whether the rules pass by a record for where it stands, or for a list that begins with 'use asm'; the last of its chain stands at no head of a For.
     fn passes_by(self, kind: Kind, asm: bool, last: bool) -> bool
         ensures { result ≡ passed_by (place_of self) (kind_word kind) asm last }

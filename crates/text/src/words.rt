@@ -24,6 +24,7 @@ pub fn cut(bytes: &[u8], separator: u8) -> (&[u8], &[u8])
     }
 }
 
+// Neither `TryFrom<&[u8]>` nor `FromStr`: for `u32` they are std's to write, and neither has a ghost meaning or takes a heap.
 /// What a word of a line may stand for.
 pub trait FromWord {
     ghost meaning: { List ℕ → Result Self Problem };
@@ -104,7 +105,7 @@ impl<T: FromWord + Drop> FromLine for Vec<T> {
     fn from_line(heap: Global, content: &[u8]) -> Result<Vec<T>, Problem> {
         let mut read = Vec::new(heap);
         let mut rest = content;
-        // No `for` over `content.split(..)`: in a generic function an iterator with a closure gets no proof.
+        // No `for` over `content.split(..)`: in a generic function an iterator with a closure or a function gets no proof.
         while !rest.is_empty() {
             let (word, after) = cut(rest, SPACE);
             if !word.is_empty() {

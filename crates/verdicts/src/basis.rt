@@ -31,7 +31,7 @@ pub struct Basis<'t> {
 fn retained(retain: &[u32], symbol: u32) -> bool
     ensures { result ≡ member symbol retain.now }
 {
-    // A loop, since a rule of the project wants the retain list walked by one.
+    // A rule of docs/DECISIONS.md: the retain list is walked by a `for` over the slice, with an invariant over the symbols seen.
     for kept in retain {
         if *kept == symbol {
             return true;
@@ -47,7 +47,9 @@ fn is_declared(declared: &[u32], id: Id) -> bool
     find::<Declared>(declared, &id).is_some()
 }
 
+// A place stands beside the basis in the methods and not in it: the place changes at each record, and the basis never.
 impl<'t> Basis<'t> {
+    // `is_var` is a flag, here and in what asks it: it is the original's own parameter.
     /// Whether a name's declaration may go at a place: without `top_level`, functions and `var` need a surrounding Function, the rest a surrounding Block.
     fn permits(&self, place: Place, is_var: bool) -> bool
         ensures { result ≡ permitted (by_of silent self.now).config (place_of place) is_var }
@@ -64,7 +66,7 @@ impl<'t> Basis<'t> {
     fn is_unused(&self, id: Id) -> bool
         ensures { result ≡ unused (row_in_words self.now.names.now (name_of_id id)) }
     {
-        Names::info(self.names, id).map_or(true, |info| info.counts == VarInfo::default())
+        Names::info(self.names, id).is_none_or(|info| info.counts == VarInfo::default())
     }
 
     /// Whether a name was counted and nothing reads it; an entry is read from outside, except under `top_level`.

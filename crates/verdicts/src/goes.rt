@@ -48,6 +48,7 @@ impl<'t> Basis<'t> {
         node.kind == Kind::Specifier && self.can_drop_binding(place, false, node.id())
     }
 
+    // `had` is one bit: what was found is gone when the verdict falls, and whether there was any is all that is left of it.
     /// Whether an Import, which had children if `had`, lost them all, and the settings do not preserve it.
     pub fn import_emptied(&self, had: bool, node: Node<'_>) -> bool
         ensures { (found : Chain) → had ≡ not (is_end found) → result ≡ import_emptied (by_of silent self.now) (head_of_node node.entry) found (as_chain node.entry.below) }

@@ -17,6 +17,7 @@ const LINE_FEED: u8 = b'\n';
 const COMMENT: u8 = b'#';
 
 // Whether a line says nothing: a comment, and between cases an empty line.
+// `between` is a flag, here and in `pass_over`, as the definitions of both have it.
 fn is_skipped(line: &[u8], between: bool) -> bool
     ensures { result ≡ skipped between line.now }
 {

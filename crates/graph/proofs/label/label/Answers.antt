@@ -1,6 +1,7 @@
 use Rattle.std.proofs.Common.{length, get_or, refl, ap, ◌∙◌, subst, arith, rules}
 use Rattle.std.proofs.lemmas.List.{get_or-replicate}
 use Rattle.graph.specs.Graphs.{Components}
+use Rattle.graph.specs.Refusals.{Refused}
 use Rattle.graph.specs.Searching.{Linked}
 use Rattle.graph.proofs.Finishing.{begun, finished}
 use Rattle.graph.proofs.label.label.Goals as goal
@@ -19,3 +20,9 @@ returns g c =
     subst (λ es. Components es c.lower.new.labels c.walk.inside.count) (ap (λ v. v.edges) c.walk.view_is ∙ c.explore.ensures.onward.edges)
     (finished c.walk.invariant (rw (← c.walk.view_is) at c.explore.ensures.empty) (λ v h. all v (omega arith)) c.lower.new.labels (omega arith)
     (λ v h. omega (arith, c.lower.ensures v (omega arith))))
+
+pub returns-in_err-link : goal.returns-in_err-link
+returns-in_err-link g c =
+    let refused : Refused (g.E.Edges.list c.args.edges.now) (length c.args.labels.now) (length c.args.work.now) c.in_err-link.field-0.0 =
+      subst (λ n. Refused (g.E.Edges.list c.args.edges.now) n (length c.args.work.now) c.in_err-link.field-0.0) (omega arith) (c.in_err-link.ensures (length c.args.work.now)) in
+    search rules
