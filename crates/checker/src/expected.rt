@@ -65,7 +65,7 @@ impl Expected {
     pub(crate) fn under(parent: Record) -> Expected
         ensures { ways result ≡ children_of (head_of 0 parent) }
     {
-        let flagged = parent.flags == 1;
+        let flagged = parent.is_flagged();
         match parent.kind {
             Kind::Module => Expected::Items,
             Kind::Script => Expected::Statements,

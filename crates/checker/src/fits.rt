@@ -16,7 +16,7 @@ pub(crate) fn fits(node: Record) -> bool
 fn flags_fit(node: Record) -> bool
     ensures { result ≡ flags_fit (head_of 0 node) }
 {
-    node.flags == 0 || (node.flags == 1 && may_be_flagged(node.kind))
+    node.flags == 0 || (node.is_flagged() && may_be_flagged(node.kind))
 }
 
 /// Whether symbol and mark are a name, a string's text or nothing, as the kind has them.

@@ -43,7 +43,7 @@ impl Place {
         Place {
             in_fn: self.in_fn || kind == Kind::Function,
             in_block_stmt: self.in_block_stmt || kind == Kind::Block,
-            in_var: kind == Kind::VarDeclaration && node.flags == 1,
+            in_var: kind == Kind::VarDeclaration && node.is_flagged(),
             in_export: kind == Kind::ExportDeclaration
                 || (self.in_export && (kind == Kind::VarDeclaration || kind == Kind::Declarator)),
             parent: Some(kind),

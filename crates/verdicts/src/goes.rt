@@ -66,6 +66,6 @@ impl<'t> Basis<'t> {
         node.record.kind == Kind::VarDeclaration
             && !place.in_export
             && !node.below.is_end()
-            && self.all_go(place, node.record.flags == 1, node.below)
+            && self.all_go(place, node.record.is_flagged(), node.below)
     }
 }

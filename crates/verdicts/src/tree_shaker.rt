@@ -36,7 +36,7 @@ impl<'t, J: Judge> TreeShaker<'t, J> {
         let kind = member.record.kind;
         (kind.is_expression() && self.first_acts(member.chain))
             || kind == Kind::StaticBlock
-            || ((kind == Kind::Method || kind == Kind::Property) && member.record.flags == 1)
+            || ((kind == Kind::Method || kind == Kind::Property) && member.record.is_flagged())
             || (kind == Kind::Property && self.first_acts(member.below))
     }
 
