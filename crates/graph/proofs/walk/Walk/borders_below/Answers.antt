@@ -6,7 +6,6 @@ use Rattle.graph.proofs.walk.Walk.borders_below.Goals as goal
 pub slice_bounds-borders-end : goal.slice_bounds-borders-end
 slice_bounds-borders-end g c = omega (arith, length-take {A = ℕ}, depth_room c.self.invariant)
 
-
 pub returns-clause-dropped : goal.returns-clause-dropped
 returns-clause-dropped g c =
     let bs = take c.self.inside.depth c.self.inside.borders.now in
