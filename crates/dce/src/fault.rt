@@ -1,0 +1,42 @@
+ghost use Rattle.std.specs.Prelude.{◌≡◌};
+ghost use Rattle.dce.specs.declared.fault.PassFault.TheVariants.{Lengths, Check, Count};
+
+use analyzer::CountFault;
+use checker::CheckFault;
+use tables::TableFault;
+
+/// Tree, tables or retain list are too long, or the tree has no words or no whole number of records.
+#[derive(Clone, Copy, PartialEq, Eq, Debug)]
+pub struct LengthsFault;
+
+/// Why a pass is refused.
+#[derive(Clone, Copy, PartialEq, Eq, Debug)]
+pub enum PassFault {
+    Lengths(LengthsFault),
+    Check(CheckFault),
+    Count(CountFault),
+}
+
+impl From<LengthsFault> for PassFault {
+    ghost from_gives = { λ x y. y ≡ Lengths x };
+
+    fn from(fault: LengthsFault) -> PassFault {
+        PassFault::Lengths(fault)
+    }
+}
+
+impl From<CheckFault> for PassFault {
+    ghost from_gives = { λ x y. y ≡ Check x };
+
+    fn from(fault: CheckFault) -> PassFault {
+        PassFault::Check(fault)
+    }
+}
+
+impl From<CountFault> for PassFault {
+    ghost from_gives = { λ x y. y ≡ Count x };
+
+    fn from(fault: CountFault) -> PassFault {
+        PassFault::Count(fault)
+    }
+}

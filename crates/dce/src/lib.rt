@@ -1,0 +1,6 @@
+#![tactic(auto)]
+
+mod fault;
+mod fill;
+
+pub use fault::{LengthsFault, PassFault};
