@@ -1,11 +1,10 @@
-use Rattle.std.proofs.Common.{ℕ, ◌+◌, ◌<◌, ◌≤◌, length, get_or, take, arith, rules}
+use Rattle.std.proofs.Common.{ℕ, ◌<◌, ◌≤◌, length, get_or, take, arith, rules}
 use Rattle.std.proofs.lemmas.List.{length-take, get_or-take}
 use Rattle.graph.proofs.Stepping.{depth_room}
 use Rattle.graph.proofs.walk.Walk.borders_below.Goals as goal
 
 pub slice_bounds-borders-end : goal.slice_bounds-borders-end
 slice_bounds-borders-end g c = omega (arith, length-take {A = ℕ}, depth_room c.self.invariant)
-
 
 pub returns-clause-dropped : goal.returns-clause-dropped
 returns-clause-dropped g c =
