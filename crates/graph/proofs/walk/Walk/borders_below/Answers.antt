@@ -1,4 +1,4 @@
-use Rattle.std.proofs.Common.{ℕ, ◌+◌, ◌<◌, ◌≤◌, length, get_or, take, arith, rules}
+use Rattle.std.proofs.Common.{ℕ, ◌<◌, ◌≤◌, length, get_or, take, arith, rules}
 use Rattle.std.proofs.lemmas.List.{length-take, get_or-take}
 use Rattle.graph.proofs.Stepping.{depth_room}
 use Rattle.graph.proofs.walk.Walk.borders_below.Goals as goal
