@@ -1,5 +1,5 @@
 mod Declares
-mod Fills
+pub mod Fills
 mod Paths
 mod Walks
 mod Bridge

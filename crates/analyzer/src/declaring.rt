@@ -74,7 +74,8 @@ fn is_filled(table: &[u32]) -> bool
 /// Fills the table of the declared names from the tree, unless it has a row. A table that is too short is left without rows.
 pub fn fill_declared(tree: Children<'_>, table: &mut [u32]) -> Result<(), TableFault>
     requires { Tree tree.words.now (as_chain tree) }
-    ensures { MatchResult result (λ _. FilledDeclared (as_chain tree.entry) table.old table.new) (λ e. FullDeclared (as_chain tree.entry) (number_of e) (place_of e) table.old table.new) }
+    ensures names { MatchResult result (λ _. FilledDeclared (as_chain tree.entry) table.old table.new) (λ e. FullDeclared (as_chain tree.entry) (number_of e) (place_of e) table.old table.new) }
+    ensures behind { zeroed declared_width table.new ≡ zeroed declared_width table.old }
 {
     if is_filled(table) {
         return Ok(());

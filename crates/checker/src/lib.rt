@@ -50,7 +50,7 @@ pub fn check(words: &[u32]) -> Result<u32, CheckFault>
 }
 
 /// Whether a tree may have so many words.
-fn lengths_fit(length: usize) -> bool
+pub fn lengths_fit(length: usize) -> bool
     ensures { result ≡ tree_fits length }
 {
     length != 0 && length <= MOST_WORDS && length % RECORD_WORDS == 0

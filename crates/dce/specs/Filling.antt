@@ -15,6 +15,7 @@ pub record FilledTables (tree : Chain) (d n e d' n' e' : List ℕ) : Type 0 wher
   pub filled : Filled
   pub is : fill_tables (room d n e) tree (read_declared d) ≡ fine filled
   pub declared : d' ≡ declared_after (read_declared d) filled.declared d
+  pub read : read_declared d' ≡ filled.declared
   pub counts : Ready filled.counts n e n' e'
 
 -- the book refuses to fill them

@@ -1,2 +1,4 @@
 pub mod Faults
 pub mod Filling
+pub mod Calls
+pub mod Discounting

@@ -2,7 +2,7 @@ ghost use Rattle.std.specs.Prelude.{◌≡◌, ◌*◌, ◌^◌, ◌<◌, ◌≤
 ghost use Rattle.rules.specs.Calls.{declared_after, zeroed};
 ghost use Rattle.rules.specs.Check.{most_nesting};
 ghost use Rattle.rules.specs.Held.{Tree};
-ghost use Rattle.rules.specs.Tables.{names_width, edges_width, read_declared};
+ghost use Rattle.rules.specs.Tables.{declared_width, names_width, edges_width, read_declared};
 ghost use Rattle.rules.specs.Tree.{Name, reached};
 ghost use Rattle.records.specs.Chains.{as_chain};
 ghost use Rattle.analyzer.specs.CountFaults.{number as number_of, place as place_of};
@@ -56,11 +56,13 @@ fn fill_each(
     requires room { 2 * reached (as_chain tree) ≤ length seen.old }
     ensures tables { MatchResult result (λ _. FilledTables (as_chain tree.entry) declared.old names.old edges.old declared.new names.new edges.new) (λ e. Refused (as_chain tree.entry) declared.old names.old edges.old (number_of e) (place_of e)) }
     ensures declared { (rows : List Name) × (declared.new ≡ declared_after (read_declared declared.old) rows declared.old) }
-    ensures names { zeroed names_width names.new ≡ zeroed names_width names.old }
-    ensures edges { zeroed edges_width edges.new ≡ zeroed edges_width edges.old }
+    ensures declared_behind { zeroed declared_width declared.new ≡ zeroed declared_width declared.old }
+    ensures names_behind { zeroed names_width names.new ≡ zeroed names_width names.old }
+    ensures edges_behind { zeroed edges_width edges.new ≡ zeroed edges_width edges.old }
 {
     zero_rows::<Names>(names);
     zero_rows::<Edges>(edges);
     fill_declared(tree, declared)?;
-    count(tree, names, edges, seen)
+    count(tree, names, edges, seen)?;
+    Ok(())
 }

@@ -10,16 +10,16 @@ use Rattle.analyzer.proofs.Declares.{declares_agree}
 use Rattle.analyzer.proofs.Fills.{zeroed_holds, agreed_fills, agreed_full}
 use Rattle.analyzer.proofs.declaring.fill_declared.Goals as goal
 
-pub returns-in-Ok : goal.returns-in-Ok
-returns-in-Ok c =
+pub returns-in-Ok-clause-names : goal.returns-in-Ok-clause-names
+returns-in-Ok-clause-names c =
     let tree = as_chain c.args.tree in
     let table = c.args.table.now in
     agreed_fills tree table c.collect_decls.new.table _ (c.is_filled.ensures.none (search rules))
     (declares_agree table (declared tree) [] c.zero_rows.new.table (declaring_signed root under_nothing tree c.requires.formed) (zeroed_holds table _ c.zero_rows.ensures.words))
     c.in-Ok.ensures.names
 
-pub returns-in-Err : goal.returns-in-Err
-returns-in-Err c =
+pub returns-in-Err-clause-names : goal.returns-in-Err-clause-names
+returns-in-Err-clause-names c =
     let tree = as_chain c.args.tree in
     let table = c.args.table.now in
     agreed_full tree _ _ table _ _ (c.is_filled.ensures.none (search rules))

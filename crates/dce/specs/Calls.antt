@@ -1,0 +1,34 @@
+-- What the calls find and leave, in the code's words. The contracts of the calls cite it.
+--
+--   handed            the words of tree and tables
+--   lengths_fit       what every call tests
+--   config_by         the settings of a call
+--   state             what a call finds, or leaves
+use Rattle.std.specs.Prelude.{ℕ, Bool, ◌&&◌, List, length, nat_le}
+use Rattle.rules.specs.Tree.{Chain}
+use Rattle.rules.specs.Check.{tree_fits}
+use Rattle.rules.specs.Removal.{Config}
+use Rattle.rules.specs.Calls.{State, Handed, start, most_table_words}
+use Rattle.verdicts.specs.Grounds.{config_of}
+use Rattle.dce.specs.declared.tree_shaker.TreeShaker.{TreeShaker}
+
+-- the words of tree and tables
+abbrev pub handed : (tree declared names edges : List ℕ) → Handed
+handed tree declared names edges = record { tree = tree; declared = declared; names = names; edges = edges }
+
+-- the lengths of tree, tables and retain list are such as a call takes
+abbrev pub lengths_fit : (tree declared names edges retain : List ℕ) → Bool
+lengths_fit tree declared names edges retain =
+    tree_fits (length tree)
+    && (nat_le (length declared) most_table_words
+    && (nat_le (length names) most_table_words
+    && (nat_le (length edges) most_table_words
+    && nat_le (length retain) most_table_words)))
+
+-- the settings of a call: the shaker's, what its judge means, and the retain list
+abbrev pub config_by : {J : Type 0} → (acts : J → Chain → Bool) → TreeShaker J → (retain : List ℕ) → Config
+config_by acts s retain = config_of s.config (acts s.judge) retain
+
+-- what a call finds, or leaves, in the caller's words and in the shaker
+abbrev pub state : {J : Type 0} → (tree declared names edges : List ℕ) → TreeShaker J → State
+state tree declared names edges s = start (handed tree declared names edges) s.changed

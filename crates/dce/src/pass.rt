@@ -1,0 +1,71 @@
+ghost use Rattle.std.specs.Prelude.{◌≡◌, ℕ, true, List};
+ghost use Rattle.rules.specs.Refusals.{Says};
+ghost use Rattle.rules.specs.Refusals.Outcome.{fine};
+ghost use Rattle.rules.specs.Words.{tree_of};
+ghost use Rattle.rules.specs.Check.{check};
+ghost use Rattle.rules.specs.Tables.{NameRow, read_declared};
+ghost use Rattle.rules.specs.Removal.{at_root, going_by, treat};
+ghost use Rattle.tables.specs.Matching.{NamesHeld};
+ghost use Rattle.rules.specs.Calls.{pass_once};
+ghost use Rattle.dce.specs.Calls.{lengths_fit, config_by, state};
+ghost use Rattle.dce.specs.Faults.{number as number_of, place as place_of};
+
+use crate::discount::discount;
+use crate::fault::PassFault;
+use crate::fill::fill_tables;
+use crate::tree_shaker::TreeShaker;
+use checker::check;
+use judge::Judge;
+use records::{Children, MOST_NESTING, ROOT};
+use removal::remove;
+use verdicts::Basis;
+
+impl<J: Judge> TreeShaker<J> {
+    /// A pass over words whose lengths fit: checks the tree, fills the tables, discounts, and removes.
+    pub(crate) fn pass_once(
+        &mut self,
+        tree: &mut [u32],
+        declared: &mut [u32],
+        names: &mut [u32],
+        edges: &mut [u32],
+        retain: &[u32],
+    ) -> Result<bool, PassFault>
+        requires { lengths_fit tree.old declared.old names.old edges.old retain.now ≡ true }
+        ensures answer { Says (pass_once (config_by J.Judge.acts self.old retain.now) (state tree.old declared.old names.old edges.old self.old)).answer (λ b. b) number_of place_of result }
+        ensures state { state tree.new declared.new names.new edges.new self.new ≡ (pass_once (config_by J.Judge.acts self.old retain.now) (state tree.old declared.old names.old edges.old self.old)).state }
+        ensures config { self.new.config ≡ self.old.config }
+        ensures judge { self.new.judge ≡ self.old.judge }
+    {
+        check(tree)?;
+        let work = self.work.as_mut_slice();
+        fill_tables(
+            Children::within(tree, ROOT, MOST_NESTING),
+            declared,
+            names,
+            edges,
+            work,
+        )?;
+        discount(names, edges, work);
+        let removed = self.remove(tree, declared, names, retain);
+        self.changed |= removed;
+        Ok(self.changed)
+    }
+
+    /// Removes from a checked tree by the tables that were filled from it, and says whether something was removed.
+    fn remove(&self, tree: &mut [u32], declared: &[u32], names: &[u32], retain: &[u32]) -> bool
+        requires { check tree.old ≡ fine (tree_of tree.old 1) }
+        ensures tree { (found : List ℕ) (rs : List NameRow) → NamesHeld found rs names.now → check tree.new ≡ fine (treat (going_by (config_by J.Judge.acts self.now retain.now) (read_declared declared.now) rs) at_root (tree_of tree.old 1)).chain }
+        ensures changed { (found : List ℕ) (rs : List NameRow) → NamesHeld found rs names.now → result ≡ (treat (going_by (config_by J.Judge.acts self.now retain.now) (read_declared declared.now) rs) at_root (tree_of tree.old 1)).changed }
+    {
+        let shaker = verdicts::TreeShaker {
+            judge: &self.judge,
+            basis: Basis {
+                config: self.config,
+                retain,
+                declared,
+                names,
+            },
+        };
+        remove(&shaker, tree)
+    }
+}
