@@ -24,7 +24,8 @@ use Rattle.analyzer.specs.declared.scope.Scope.{Scope}
 use Rattle.analyzer.specs.CountFaults.{number as fault_number, place as fault_place}
 use Rattle.analyzer.specs.Scopes.{Here, here, one, role_of, IsOutermost, here_inside, no_notes, with_eval}
 use Rattle.analyzer.specs.Walk.{State, state, Went, referred, read_exports, named, left_scope, sort_of, visited_by, walk}
-use Rattle.analyzer.proofs.Bridge.{and_then_alike, and_then_assoc, and_then_fine, Scoped, seen, inside_scoped, inside_seen, entering, entering_then, entering_nothing, referred_is, named_is, readings_are, leave_is}
+use Rattle.rules.proofs.Outcomes.{and_then_assoc, and_then_fine}
+use Rattle.analyzer.proofs.Bridge.{Scoped, seen, inside_scoped, inside_seen, entering, entering_then, entering_nothing, referred_is, named_is, readings_are, leave_is}
 
 -- what a record gives before its children, and what its children give as it is left
 abbrev before : Around → Head → Chain → Found
@@ -45,10 +46,7 @@ by_book a h children inner s = by_parts (before a h children) (left h children i
 three : (o p : Outcome State) (f g k l : State → Outcome State) → o ≡ p → ((t : State) → f t ≡ g t) → ((u : State) → k u ≡ l u)
     → and_then o (λ t. and_then (f t) (λ u. k u)) ≡ and_then p (λ t. and_then (g t) (λ u. l u))
 three o p f g k l first second third =
-    ap (λ (x : Outcome State). and_then x (λ t. and_then (f t) (λ u. k u))) first
-    ∙ and_then_alike p (λ t. and_then (f t) (λ u. k u)) (λ t. and_then (g t) (λ u. l u)) (λ t.
-    ap (λ (x : Outcome State). and_then x (λ u. k u)) (second t)
-    ∙ and_then_alike (g t) (λ u. k u) (λ u. l u) third)
+    λ i. and_then (first i) (λ t. and_then (second t i) (λ u. third u i))
 
 -- no direct call of `eval` is noted
 no_eval : (s : State) → fine (record { tables = s.tables; notes = with_eval false s.notes }) ≡ fine s
@@ -65,11 +63,12 @@ never_function false false false f = let z : ◌≡◌ {A = ℕ} 0 1 = cc in ome
 parts_then : (first second third rest : Found) (s : State)
     → and_then (by_parts first second third s) (λ u. entering rest u) ≡ entering (first followed_by second followed_by third followed_by rest) s
 parts_then first second third rest s =
-    and_then_assoc (entering first s) (λ t. and_then (entering second t) (λ u. entering third u)) (λ v. entering rest v)
-    ∙ and_then_alike (entering first s) (λ t. and_then (and_then (entering second t) (λ u. entering third u)) (λ v. entering rest v)) (λ t. entering (second followed_by third followed_by rest) t) (λ t.
+    let two : (t : State) → and_then (and_then (entering second t) (λ u. entering third u)) (λ v. entering rest v) ≡ entering (second followed_by third followed_by rest) t = λ t.
     and_then_assoc (entering second t) (λ u. entering third u) (λ v. entering rest v)
-    ∙ and_then_alike (entering second t) (λ u. and_then (entering third u) (λ v. entering rest v)) (λ u. entering (third followed_by rest) u) (λ u. sym (entering_then third rest u))
-    ∙ sym (entering_then second (third followed_by rest) t))
+    ∙ (λ i. and_then (entering second t) (λ u. sym (entering_then third rest u) i))
+    ∙ sym (entering_then second (third followed_by rest) t) in
+    and_then_assoc (entering first s) (λ t. and_then (entering second t) (λ u. entering third u)) (λ v. entering rest v)
+    ∙ (λ i. and_then (entering first s) (λ t. two t i))
     ∙ sym (entering_then first (second followed_by third followed_by rest) s)
 
 module _ (a : Around) (n flags symbol mark : ℕ) (children : Chain) (below : Here → State → Outcome State) (inner : Found) where
@@ -106,7 +105,7 @@ module _ (a : Around) (n flags symbol mark : ℕ) (children : Chain) (below : He
       (λ t. below (here_inside (seen a) (unnumbered_head (head 27))) t) (λ t. entering inner t)
       (λ u. and_then (referred (seen a) false (head 27) u) (λ v. fine (record { tables = v.tables; notes = with_eval false v.notes }))) (λ u. entering (reading a (head 27)) u)
       (sym (entering_nothing s)) walked
-      (λ u. and_then_alike (referred (seen a) false (head 27) u) (λ v. fine (record { tables = v.tables; notes = with_eval false v.notes })) (λ v. fine v) (λ v. no_eval v)
+      (λ u. (λ i. and_then (referred (seen a) false (head 27) u) (λ v. no_eval v i))
       ∙ and_then_fine (referred (seen a) false (head 27) u) ∙ referred_is a false (head 27) u)
 
   at_call : Visits 34
@@ -182,9 +181,9 @@ module _ (a : Around) (n flags symbol mark : ℕ) (children : Chain) (below : He
       ∙ and_then_fine (walks s)
   walked_through kind Pattern e5 e7 e27 e34 e37 e40 some s =
       let walks : State → Outcome State = λ t. below (here_inside (seen a) (unnumbered_head (head kind))) t in
-      and_then_alike (walks s)
-      (λ t. if eqb kind 37 then named (seen a) a.role (head kind) t else if eqb kind 40 then referred (seen a) true (head kind) t else fine t) (λ t. fine t)
-      (λ t. cond-false (eqb kind 37) _ _ e37 ∙ cond-false (eqb kind 40) _ _ e40)
+      let neither : (t : State) → (if eqb kind 37 then named (seen a) a.role (head kind) t else if eqb kind 40 then referred (seen a) true (head kind) t else fine t) ≡ fine t =
+      λ t. cond-false (eqb kind 37) _ _ e37 ∙ cond-false (eqb kind 40) _ _ e40 in
+      (λ i. and_then (walks s) (λ t. neither t i))
       ∙ and_then_fine (walks s)
 
   no_function : (kind : ℕ) → eqb kind 21 ≡ false → eqb kind 31 ≡ false → sort_of kind ≡ Function → ⊥
@@ -232,8 +231,7 @@ walk_counts a (link h children rest) s scoped =
     let third = own a h children in
     let walked : (t : State) → walk (here_inside (seen a) (unnumbered_head h)) children t ≡ entering inner t = λ t.
     ap (λ (b : Here). walk b children t) (sym (inside_seen a h scoped)) ∙ walk_counts (inside a h) children t (inside_scoped a h scoped) in
-    ap (λ (o : Outcome State). and_then o (λ u. walk (seen a) rest u)) (visits a h.number h.flags h.symbol h.mark children below inner h.kind walked s)
-    ∙ and_then_alike (by_parts first second third s) (λ u. walk (seen a) rest u) (λ u. entering (count a rest) u) (λ u. walk_counts a rest u scoped)
+    (λ i. and_then (visits a h.number h.flags h.symbol h.mark children below inner h.kind walked s i) (λ u. walk_counts a rest u scoped i))
     ∙ parts_then first second third (count a rest) s
 
 fine_back : (o : Outcome Tables) (arguments eval : Bool) (u : State)
