@@ -2,7 +2,7 @@
 -- Eight kinds do something before, after or around their children; for each of them the tests compute. Any other is walked through, whatever its sort.
 use Rattle.std.specs.Prelude.{if◌then◌else◌}
 use Rattle.std.proofs.Math.Bool.{or-false}
-use Rattle.std.proofs.Common.{◌≡◌, ℕ, Bool, true, false, ◌&&◌, ◌||◌, eqb, List, take, drop, None, Option, Ok, Err, Result, sym, refl, ap, ◌∙◌, subst, ⊎_elim, arith}
+use Rattle.std.proofs.Common.{◌≡◌, ℕ, Bool, true, false, ◌&&◌, ◌||◌, eqb, List, take, drop, None, Option, Ok, Err, Result, sym, refl, ap, ◌∙◌, subst, ⊎_elim}
 use Rattle.std.proofs.lemmas.Bool.{cond-false, cases_Bool, eqb-true, or_from}
 use Rattle.rules.specs.Tree.{Head, Chain, ◌is◌, unnumbered_head}
 use Rattle.rules.specs.Tree.Chain.{end, link}
@@ -48,10 +48,10 @@ no_eval s = ap (λ (b : Bool). fine (record { tables = s.tables; notes = record 
 
 -- a sort by the tests after the first
 never_function : (b d e : Bool) → (if b then Class else if d then Expression else if e then Pattern else Statement) ≡ Function → ⊥
-never_function true d e f = let z : ◌≡◌ {A = ℕ} 0 1 = cc in omega arith
-never_function false true e f = let z : ◌≡◌ {A = ℕ} 0 1 = cc in omega arith
-never_function false false true f = let z : ◌≡◌ {A = ℕ} 0 1 = cc in omega arith
-never_function false false false f = let z : ◌≡◌ {A = ℕ} 0 1 = cc in omega arith
+never_function true d e f = cc
+never_function false true e f = cc
+never_function false false true f = cc
+never_function false false false f = cc
 
 -- three parts and what follows them
 parts_then : (first second third rest : Found) (s : State)
@@ -206,11 +206,11 @@ fine_back : (o : Outcome Tables) (arguments eval : Bool) (u : State)
 fine_back (fine t) arguments eval u e =
     let same : record { tables = t; notes = record { found_arguments = arguments; found_direct_eval = eval } } ≡ u = cc in
     ap (λ (x : State). fine x.tables) same
-fine_back (refused number at) arguments eval u e = absurd (let z : ◌≡◌ {A = ℕ} 0 1 = cc in omega arith)
+fine_back (refused number at) arguments eval u e = cc
 
 refused_back : (o : Outcome Tables) (arguments eval : Bool) (number at : ℕ)
     → and_then {B = State} o (λ t. fine (record { tables = t; notes = record { found_arguments = arguments; found_direct_eval = eval } })) ≡ refused number at → o ≡ refused number at
-refused_back (fine t) arguments eval number at e = absurd (let z : ◌≡◌ {A = ℕ} 0 1 = cc in omega arith)
+refused_back (fine t) arguments eval number at e = cc
 refused_back (refused number' at') arguments eval number at e = cc
 
 -- what is entered is fine or refused as the events are
