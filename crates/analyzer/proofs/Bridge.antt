@@ -11,7 +11,8 @@ use Rattle.rules.specs.Names.{among, names_of, distinct, bound, declared_below}
 use Rattle.rules.specs.Counting.{Event, unheld, refer, Found, nothing, ◌followed_by◌, Around, holders, put, reference, reading, writing, readings, marks, named_here, opens, leave, inside}
 use Rattle.rules.specs.Counting as book
 use Rattle.rules.specs.Refusals.{Outcome, and_then}
-use Rattle.rules.specs.Refusals.Outcome.{fine, refused}
+use Rattle.rules.specs.Refusals.Outcome.{fine}
+use Rattle.rules.proofs.Outcomes.{and_then_assoc, and_then_fine}
 use Rattle.names.specs.Sinks.{each}
 use Rattle.records.specs.declared.id.Id.{Id}
 use Rattle.data.specs.Events.{Tables, entered}
@@ -19,19 +20,6 @@ use Rattle.data.specs.Filling.{id_of, ids_of, enter_words, fill_words}
 use Rattle.analyzer.specs.declared.notes.Notes.{Notes}
 use Rattle.analyzer.specs.Scopes.{Here, held_with, here_inside, no_notes}
 use Rattle.analyzer.specs.Walk.{State, none_hold, referred, named, leaving, left_scope}
-
--- what goes on alike ends alike
-pub and_then_alike : {A B : Type 0} (o : Outcome A) (f g : A → Outcome B) → ((a : A) → f a ≡ g a) → and_then o f ≡ and_then o g
-and_then_alike (fine a) f g same = same a
-and_then_alike (refused number at) f g same = refl
-
-pub and_then_assoc : {A B C : Type 0} (o : Outcome A) (f : A → Outcome B) (g : B → Outcome C) → and_then (and_then o f) g ≡ and_then o (λ a. and_then (f a) g)
-and_then_assoc (fine a) f g = refl
-and_then_assoc (refused number at) f g = refl
-
-pub and_then_fine : {A : Type 0} (o : Outcome A) → and_then o (λ a. fine a) ≡ o
-and_then_fine (fine a) = refl
-and_then_fine (refused number at) = refl
 
 -- the innermost scope has put no name on its path
 abbrev pub first_empty : List (List Name) → Bool
@@ -125,7 +113,7 @@ noted t arguments eval = record { tables = t; notes = record { found_arguments =
 fill_joins : (es fs : List Event) (t : Tables) → fill_words (es ++ fs) t ≡ and_then (fill_words es t) (λ u. fill_words fs u)
 fill_joins [] fs t = refl
 fill_joins (e ∷ es) fs t =
-    and_then_alike (enter_words e t) (λ more. fill_words (es ++ fs) more) (λ more. and_then (fill_words es more) (λ u. fill_words fs u)) (λ more. fill_joins es fs more)
+    (λ i. and_then (enter_words e t) (λ more. fill_joins es fs more i))
     ∙ sym (and_then_assoc (enter_words e t) (λ more. fill_words es more) (λ u. fill_words fs u))
 
 pub entering_then : (f g : Found) (s : State) → entering (f followed_by g) s ≡ and_then (entering f s) (λ u. entering g u)
@@ -139,8 +127,7 @@ entering_then f g s =
     ∙ ap (λ (x : Bool). fine (noted v ((a || f.found_arguments) || g.found_arguments) x)) (sym (or_assoc e f.found_direct_eval g.found_direct_eval)) in
     ap (λ (o : Outcome Tables). and_then o both) (fill_joins f.events g.events s.tables)
     ∙ and_then_assoc (fill_words f.events s.tables) (λ u. fill_words g.events u) both
-    ∙ and_then_alike (fill_words f.events s.tables) (λ u. and_then (fill_words g.events u) both) (λ u. and_then (fill_words g.events u) last)
-    (λ u. and_then_alike (fill_words g.events u) both last alike)
+    ∙ (λ i. and_then (fill_words f.events s.tables) (λ u. and_then (fill_words g.events u) (λ v. alike v i)))
     ∙ sym (and_then_assoc (fill_words f.events s.tables) (λ u. fine (noted u (a || f.found_arguments) (e || f.found_direct_eval))) (λ u. entering g u))
 
 pub entering_nothing : (s : State) → entering nothing s ≡ fine s
@@ -179,16 +166,14 @@ pub named_is : (a : Around) (role : book.Role) (h : Head) (s : State) → named 
 named_is a book.declared_here h s = sym (entering_nothing s)
 named_is a book.written h s = referred_is a true h s
 named_is a book.read_and_written h s =
-    ap (λ (o : Outcome State). and_then o (λ t. referred (seen a) true h t)) (referred_is a false h s)
-    ∙ and_then_alike (entering (reading a h) s) (λ t. referred (seen a) true h t) (λ t. entering (writing a h) t) (λ t. referred_is a true h t)
+    (λ i. and_then (referred_is a false h s i) (λ t. referred_is a true h t i))
     ∙ sym (entering_then (reading a h) (writing a h) s)
 
 -- names that are read as they come are the book's readings
 pub readings_are : (a : Around) (hs : List Head) (s : State) → each (referred (seen a) false) hs s ≡ entering (readings a hs) s
 readings_are a [] s = sym (entering_nothing s)
 readings_are a (h ∷ hs) s =
-    ap (λ (o : Outcome State). and_then o (λ t. each (referred (seen a) false) hs t)) (referred_is a false h s)
-    ∙ and_then_alike (entering (reading a h) s) (λ t. each (referred (seen a) false) hs t) (λ t. entering (readings a hs) t) (λ t. readings_are a hs t)
+    (λ i. and_then (referred_is a false h s i) (λ t. readings_are a hs t i))
     ∙ sym (entering_then (reading a h) (readings a hs) s)
 
 -- events that are entered only under a condition
@@ -206,8 +191,7 @@ leaving_is h children found t =
     let second = marks h.number (names_of (bound children)) in
     let eval = found.found_direct_eval in
     let arguments = found.found_arguments && h is function in
-    ap (λ (o : Outcome Tables). and_then o (λ u. if arguments then fill_words second u else fine u)) (sym (fill_chosen eval first t))
-    ∙ and_then_alike (fill_words (if eval then first else []) t) (λ u. if arguments then fill_words second u else fine u) (λ u. fill_words (if arguments then second else []) u) (λ u. sym (fill_chosen arguments second u))
+    (λ i. and_then (sym (fill_chosen eval first t) i) (λ u. sym (fill_chosen arguments second u) i))
     ∙ sym (fill_joins (if eval then first else []) (if arguments then second else []) t)
 
 -- a scope that is left
@@ -220,8 +204,7 @@ leave_is h children f s =
     let marked = first ++ second in
     let last : Tables → Outcome State = λ t. fine (noted t (s.notes.found_arguments || (f.found_arguments && h is arrow)) (s.notes.found_direct_eval || f.found_direct_eval)) in
     and_then_assoc (fill_words f.events s.tables) (λ t. fine (record { tables = t; notes = found })) (λ u. left_scope h children s.notes u)
-    ∙ and_then_alike (fill_words f.events s.tables) (λ t. and_then (leaving h children found t) last) (λ t. and_then (fill_words marked t) last)
-    (λ t. ap (λ (o : Outcome Tables). and_then o last) (leaving_is h children found t))
+    ∙ (λ i. and_then (fill_words f.events s.tables) (λ t. and_then (leaving_is h children found t i) last))
     ∙ sym (and_then_assoc (fill_words f.events s.tables) (λ t. fill_words marked t) last)
     ∙ ap (λ (o : Outcome Tables). and_then o last) (sym (fill_joins f.events marked s.tables))
     ∙ ap (λ (es : List Event). and_then (fill_words es s.tables) last) (sym (append_assoc f.events first second))

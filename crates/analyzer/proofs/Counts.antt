@@ -2,13 +2,13 @@
 -- Eight kinds do something before, after or around their children; for each of them the tests compute. Any other is walked through, whatever its sort.
 use Rattle.std.specs.Prelude.{if◌then◌else◌}
 use Rattle.std.proofs.Math.Bool.{or-false}
-use Rattle.std.proofs.Common.{◌≡◌, ℕ, Bool, true, false, ◌&&◌, ◌||◌, eqb, List, take, drop, None, Option, Ok, Err, Result, sym, refl, ap, ◌∙◌, subst, ⊎_elim, arith}
+use Rattle.std.proofs.Common.{◌≡◌, ℕ, Bool, true, false, ◌&&◌, ◌||◌, eqb, List, take, drop, None, Option, Ok, Err, Result, sym, refl, ap, ◌∙◌, subst, ⊎_elim}
 use Rattle.std.proofs.lemmas.Bool.{cond-false, cases_Bool, eqb-true, or_from}
 use Rattle.rules.specs.Tree.{Head, Chain, ◌is◌, unnumbered_head}
 use Rattle.rules.specs.Tree.Chain.{end, link}
 use Rattle.rules.specs.Kinds.{export_declaration, class_body, property_name, class_member, expression, pattern}
 use Rattle.rules.specs.Names.{exported}
-use Rattle.rules.specs.Counting.{Found, nothing, ◌followed_by◌, Around, reading, writing, readings, named_here, calls_eval, own, opens, leave, inside, outermost, count, events_of}
+use Rattle.rules.specs.Counting.{Found, nothing, ◌followed_by◌, Around, reading, readings, calls_eval, own, opens, leave, inside, outermost, count, events_of}
 use Rattle.rules.specs.Refusals.{Outcome, and_then, Says}
 use Rattle.rules.specs.Refusals.Outcome.{fine, refused}
 use Rattle.records.specs.declared.id.Id.{Id}
@@ -24,7 +24,8 @@ use Rattle.analyzer.specs.declared.scope.Scope.{Scope}
 use Rattle.analyzer.specs.CountFaults.{number as fault_number, place as fault_place}
 use Rattle.analyzer.specs.Scopes.{Here, here, one, role_of, IsOutermost, here_inside, no_notes, with_eval}
 use Rattle.analyzer.specs.Walk.{State, state, Went, referred, read_exports, named, left_scope, sort_of, visited_by, walk}
-use Rattle.analyzer.proofs.Bridge.{and_then_alike, and_then_assoc, and_then_fine, Scoped, seen, inside_scoped, inside_seen, entering, entering_then, entering_nothing, referred_is, named_is, readings_are, leave_is}
+use Rattle.rules.proofs.Outcomes.{and_then_assoc, and_then_fine}
+use Rattle.analyzer.proofs.Bridge.{Scoped, seen, inside_scoped, inside_seen, entering, entering_then, entering_nothing, referred_is, named_is, readings_are, leave_is}
 
 -- what a record gives before its children, and what its children give as it is left
 abbrev before : Around → Head → Chain → Found
@@ -41,35 +42,25 @@ by_parts first second third s = and_then (entering first s) (λ t. and_then (ent
 abbrev by_book : Around → Head → Chain → Found → State → Outcome State
 by_book a h children inner s = by_parts (before a h children) (left h children inner) (own a h children) s
 
--- three steps that are alike one by one
-three : (o p : Outcome State) (f g k l : State → Outcome State) → o ≡ p → ((t : State) → f t ≡ g t) → ((u : State) → k u ≡ l u)
-    → and_then o (λ t. and_then (f t) (λ u. k u)) ≡ and_then p (λ t. and_then (g t) (λ u. l u))
-three o p f g k l first second third =
-    ap (λ (x : Outcome State). and_then x (λ t. and_then (f t) (λ u. k u))) first
-    ∙ and_then_alike p (λ t. and_then (f t) (λ u. k u)) (λ t. and_then (g t) (λ u. l u)) (λ t.
-    ap (λ (x : Outcome State). and_then x (λ u. k u)) (second t)
-    ∙ and_then_alike (g t) (λ u. k u) (λ u. l u) third)
-
 -- no direct call of `eval` is noted
 no_eval : (s : State) → fine (record { tables = s.tables; notes = with_eval false s.notes }) ≡ fine s
 no_eval s = ap (λ (b : Bool). fine (record { tables = s.tables; notes = record { found_arguments = s.notes.found_arguments; found_direct_eval = b } })) (or-false s.notes.found_direct_eval)
 
 -- a sort by the tests after the first
 never_function : (b d e : Bool) → (if b then Class else if d then Expression else if e then Pattern else Statement) ≡ Function → ⊥
-never_function true d e f = let z : ◌≡◌ {A = ℕ} 0 1 = cc in omega arith
-never_function false true e f = let z : ◌≡◌ {A = ℕ} 0 1 = cc in omega arith
-never_function false false true f = let z : ◌≡◌ {A = ℕ} 0 1 = cc in omega arith
-never_function false false false f = let z : ◌≡◌ {A = ℕ} 0 1 = cc in omega arith
+never_function true d e f = cc
+never_function false true e f = cc
+never_function false false true f = cc
+never_function false false false f = cc
 
 -- three parts and what follows them
 parts_then : (first second third rest : Found) (s : State)
     → and_then (by_parts first second third s) (λ u. entering rest u) ≡ entering (first followed_by second followed_by third followed_by rest) s
 parts_then first second third rest s =
     and_then_assoc (entering first s) (λ t. and_then (entering second t) (λ u. entering third u)) (λ v. entering rest v)
-    ∙ and_then_alike (entering first s) (λ t. and_then (and_then (entering second t) (λ u. entering third u)) (λ v. entering rest v)) (λ t. entering (second followed_by third followed_by rest) t) (λ t.
-    and_then_assoc (entering second t) (λ u. entering third u) (λ v. entering rest v)
-    ∙ and_then_alike (entering second t) (λ u. and_then (entering third u) (λ v. entering rest v)) (λ u. entering (third followed_by rest) u) (λ u. sym (entering_then third rest u))
-    ∙ sym (entering_then second (third followed_by rest) t))
+    ∙ (λ i. and_then (entering first s) (λ t. and_then_assoc (entering second t) (λ u. entering third u) (λ v. entering rest v) i))
+    ∙ (λ i. and_then (entering first s) (λ t. and_then (entering second t) (λ u. sym (entering_then third rest u) i)))
+    ∙ (λ i. and_then (entering first s) (λ t. sym (entering_then second (third followed_by rest) t) i))
     ∙ sym (entering_then first (second followed_by third followed_by rest) s)
 
 module _ (a : Around) (n flags symbol mark : ℕ) (children : Chain) (below : Here → State → Outcome State) (inner : Found) where
@@ -88,51 +79,34 @@ module _ (a : Around) (n flags symbol mark : ℕ) (children : Chain) (below : He
   at_export_declaration : Visits 5
   unfolding sort_of
   at_export_declaration walked s =
-      three (read_exports (seen a) children s) (entering (readings a (exported children)) s)
-      (λ t. below (here_inside (seen a) (unnumbered_head (head 5))) t) (λ t. entering inner t) (λ u. fine u) (λ u. entering nothing u)
-      (readings_are a (exported children) s) walked (λ u. sym (entering_nothing u))
+      λ i. and_then (readings_are a (exported children) s i) (λ t. and_then (walked t i) (λ u. sym (entering_nothing u) i))
 
   at_export_name : Visits 7
   unfolding sort_of
   at_export_name walked s =
-      three (fine s) (entering nothing s)
-      (λ t. below (here_inside (seen a) (unnumbered_head (head 7))) t) (λ t. entering inner t) (λ u. referred (seen a) false (head 7) u) (λ u. entering (reading a (head 7)) u)
-      (sym (entering_nothing s)) walked (λ u. referred_is a false (head 7) u)
+      λ i. and_then (sym (entering_nothing s) i) (λ t. and_then (walked t i) (λ u. referred_is a false (head 7) u i))
 
   at_identifier : Visits 27
   unfolding sort_of
   at_identifier walked s =
-      three (fine s) (entering nothing s)
-      (λ t. below (here_inside (seen a) (unnumbered_head (head 27))) t) (λ t. entering inner t)
-      (λ u. and_then (referred (seen a) false (head 27) u) (λ v. fine (record { tables = v.tables; notes = with_eval false v.notes }))) (λ u. entering (reading a (head 27)) u)
-      (sym (entering_nothing s)) walked
-      (λ u. and_then_alike (referred (seen a) false (head 27) u) (λ v. fine (record { tables = v.tables; notes = with_eval false v.notes })) (λ v. fine v) (λ v. no_eval v)
-      ∙ and_then_fine (referred (seen a) false (head 27) u) ∙ referred_is a false (head 27) u)
+      (λ i. and_then (sym (entering_nothing s) i) (λ t. and_then (walked t i) (λ u. and_then (referred_is a false (head 27) u i) (λ v. no_eval v i))))
+      ∙ (λ i. and_then (entering nothing s) (λ t. and_then (entering inner t) (λ u. and_then_fine (entering (reading a (head 27)) u) i)))
 
   at_call : Visits 34
   unfolding sort_of
   at_call walked s =
-      three (fine s) (entering nothing s)
-      (λ t. below (here_inside (seen a) (unnumbered_head (head 34))) t) (λ t. entering inner t)
-      (λ u. fine (record { tables = u.tables; notes = with_eval (calls_eval children) u.notes })) (λ u. entering (own a (head 34) children) u)
-      (sym (entering_nothing s)) walked
-      (λ u. ap (λ (b : Bool). fine (record { tables = u.tables; notes = record { found_arguments = b; found_direct_eval = u.notes.found_direct_eval || calls_eval children } })) (sym (or-false u.notes.found_arguments)))
+      λ i. and_then (sym (entering_nothing s) i) (λ t. and_then (walked t i) (λ u.
+      fine (record { tables = u.tables; notes = record { found_arguments = sym (or-false u.notes.found_arguments) i; found_direct_eval = u.notes.found_direct_eval || calls_eval children } })))
 
   at_name_pattern : Visits 37
   unfolding sort_of
   at_name_pattern walked s =
-      three (fine s) (entering nothing s)
-      (λ t. below (here_inside (seen a) (unnumbered_head (head 37))) t) (λ t. entering inner t)
-      (λ u. named (seen a) a.role (head 37) u) (λ u. entering (named_here a a.role (head 37)) u)
-      (sym (entering_nothing s)) walked (λ u. named_is a a.role (head 37) u)
+      λ i. and_then (sym (entering_nothing s) i) (λ t. and_then (walked t i) (λ u. named_is a a.role (head 37) u i))
 
   at_property_name : Visits 40
   unfolding sort_of
   at_property_name walked s =
-      three (fine s) (entering nothing s)
-      (λ t. below (here_inside (seen a) (unnumbered_head (head 40))) t) (λ t. entering inner t)
-      (λ u. referred (seen a) true (head 40) u) (λ u. entering (writing a (head 40)) u)
-      (sym (entering_nothing s)) walked (λ u. referred_is a true (head 40) u)
+      λ i. and_then (sym (entering_nothing s) i) (λ t. and_then (walked t i) (λ u. referred_is a true (head 40) u i))
 
   -- a scope: its children begin without notes
   scope_is : (kind : ℕ) → Below kind → (s : State)
@@ -142,8 +116,7 @@ module _ (a : Around) (n flags symbol mark : ℕ) (children : Chain) (below : He
       ap (λ (o : Outcome State). and_then o (λ t. left_scope (head kind) children s.notes t)) (walked (record { tables = s.tables; notes = no_notes }))
       ∙ leave_is (head kind) children inner s
       ∙ sym (and_then_fine (entering (leave (head kind) children inner) s))
-      ∙ three (fine s) (entering nothing s) (λ t. entering (leave (head kind) children inner) t) (λ t. entering (leave (head kind) children inner) t) (λ u. fine u) (λ u. entering nothing u)
-      (sym (entering_nothing s)) (λ t. refl) (λ u. sym (entering_nothing u))
+      ∙ (λ i. and_then (sym (entering_nothing s) i) (λ t. and_then (entering (leave (head kind) children inner) t) (λ u. sym (entering_nothing u) i)))
 
   at_function : Visits 21
   unfolding sort_of
@@ -167,24 +140,18 @@ module _ (a : Around) (n flags symbol mark : ℕ) (children : Chain) (below : He
       → (sort ≡ Function → ⊥) → (s : State) → visited_by sort below (seen a) (head kind) children s ≡ below (here_inside (seen a) (unnumbered_head (head kind))) s
   walked_through kind Statement e5 e7 e27 e34 e37 e40 some s =
       let walks : State → Outcome State = λ t. below (here_inside (seen a) (unnumbered_head (head kind))) t in
-      three (if eqb kind 5 then read_exports (seen a) children s else fine s) (fine s) walks walks
-      (λ u. if eqb kind 7 then referred (seen a) false (head kind) u else fine u) (λ u. fine u)
-      (cond-false (eqb kind 5) _ _ e5) (λ t. refl) (λ u. cond-false (eqb kind 7) _ _ e7)
+      (λ i. and_then (if e5 i then read_exports (seen a) children s else fine s) (λ t. and_then (walks t) (λ u. if e7 i then referred (seen a) false (head kind) u else fine u)))
       ∙ and_then_fine (walks s)
   walked_through kind Function e5 e7 e27 e34 e37 e40 some s = absurd (some refl)
   walked_through kind Class e5 e7 e27 e34 e37 e40 some s = refl
   walked_through kind Expression e5 e7 e27 e34 e37 e40 some s =
       let walks : State → Outcome State = λ t. below (here_inside (seen a) (unnumbered_head (head kind))) t in
-      three (walks s) (walks s) (λ t. if eqb kind 27 then referred (seen a) false (head kind) t else fine t) (λ t. fine t)
-      (λ u. fine (record { tables = u.tables; notes = with_eval (eqb kind 34 && calls_eval children) u.notes })) (λ u. fine u)
-      refl (λ t. cond-false (eqb kind 27) _ _ e27)
-      (λ u. ap (λ (b : Bool). fine (record { tables = u.tables; notes = with_eval (b && calls_eval children) u.notes })) e34 ∙ no_eval u)
+      (λ i. and_then (walks s) (λ t. and_then (if e27 i then referred (seen a) false (head kind) t else fine t) (λ (u : State). fine (record { tables = u.tables; notes = with_eval (e34 i && calls_eval children) u.notes }))))
+      ∙ (λ i. and_then (walks s) (λ t. no_eval t i))
       ∙ and_then_fine (walks s)
   walked_through kind Pattern e5 e7 e27 e34 e37 e40 some s =
       let walks : State → Outcome State = λ t. below (here_inside (seen a) (unnumbered_head (head kind))) t in
-      and_then_alike (walks s)
-      (λ t. if eqb kind 37 then named (seen a) a.role (head kind) t else if eqb kind 40 then referred (seen a) true (head kind) t else fine t) (λ t. fine t)
-      (λ t. cond-false (eqb kind 37) _ _ e37 ∙ cond-false (eqb kind 40) _ _ e40)
+      (λ i. and_then (walks s) (λ t. if e37 i then named (seen a) a.role (head kind) t else if e40 i then referred (seen a) true (head kind) t else fine t))
       ∙ and_then_fine (walks s)
 
   no_function : (kind : ℕ) → eqb kind 21 ≡ false → eqb kind 31 ≡ false → sort_of kind ≡ Function → ⊥
@@ -197,8 +164,7 @@ module _ (a : Around) (n flags symbol mark : ℕ) (children : Chain) (below : He
       walked_through kind (sort_of kind) e5 e7 e27 e34 e37 e40 (no_function kind e21 e31) s
       ∙ walked s
       ∙ sym (and_then_fine (entering inner s))
-      ∙ three (fine s) (entering nothing s) (λ t. entering inner t) (λ t. entering inner t) (λ u. fine u) (λ u. entering nothing u)
-      (sym (entering_nothing s)) (λ t. refl) (λ u. sym (entering_nothing u))
+      ∙ (λ i. and_then (sym (entering_nothing s) i) (λ t. and_then (entering inner t) (λ u. sym (entering_nothing u) i)))
       ∙ ap (λ (f : Found). by_parts f inner nothing s) (sym (cond-false (eqb kind 5) (readings a (exported children)) nothing e5))
       ∙ ap (λ (f : Found). by_parts (before a (head kind) children) f nothing s) (sym (cond-false (opens (head kind)) (leave (head kind) children inner) inner (or_from (eqb kind 21) (eqb kind 31) e21 e31)))
       ∙ ap (λ (f : Found). by_parts (before a (head kind) children) (left (head kind) children inner) f s) (sym (own_nothing kind e7 e27 e34 e37 e40))
@@ -232,8 +198,7 @@ walk_counts a (link h children rest) s scoped =
     let third = own a h children in
     let walked : (t : State) → walk (here_inside (seen a) (unnumbered_head h)) children t ≡ entering inner t = λ t.
     ap (λ (b : Here). walk b children t) (sym (inside_seen a h scoped)) ∙ walk_counts (inside a h) children t (inside_scoped a h scoped) in
-    ap (λ (o : Outcome State). and_then o (λ u. walk (seen a) rest u)) (visits a h.number h.flags h.symbol h.mark children below inner h.kind walked s)
-    ∙ and_then_alike (by_parts first second third s) (λ u. walk (seen a) rest u) (λ u. entering (count a rest) u) (λ u. walk_counts a rest u scoped)
+    (λ i. and_then (visits a h.number h.flags h.symbol h.mark children below inner h.kind walked s i) (λ u. walk_counts a rest u scoped i))
     ∙ parts_then first second third (count a rest) s
 
 fine_back : (o : Outcome Tables) (arguments eval : Bool) (u : State)
@@ -241,11 +206,11 @@ fine_back : (o : Outcome Tables) (arguments eval : Bool) (u : State)
 fine_back (fine t) arguments eval u e =
     let same : record { tables = t; notes = record { found_arguments = arguments; found_direct_eval = eval } } ≡ u = cc in
     ap (λ (x : State). fine x.tables) same
-fine_back (refused number at) arguments eval u e = absurd (let z : ◌≡◌ {A = ℕ} 0 1 = cc in omega arith)
+fine_back (refused number at) arguments eval u e = cc
 
 refused_back : (o : Outcome Tables) (arguments eval : Bool) (number at : ℕ)
     → and_then {B = State} o (λ t. fine (record { tables = t; notes = record { found_arguments = arguments; found_direct_eval = eval } })) ≡ refused number at → o ≡ refused number at
-refused_back (fine t) arguments eval number at e = absurd (let z : ◌≡◌ {A = ℕ} 0 1 = cc in omega arith)
+refused_back (fine t) arguments eval number at e = cc
 refused_back (refused number' at') arguments eval number at e = cc
 
 -- what is entered is fine or refused as the events are

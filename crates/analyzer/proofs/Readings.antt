@@ -1,7 +1,8 @@
 -- Names that are read as they are handed over leave what surrounds them, and read one after another.
-use Rattle.std.proofs.Common.{◌≡◌, false, List, [], ◌∷◌, refl, ap}
+use Rattle.std.proofs.Common.{◌≡◌, false, List, [], ◌∷◌, sym, refl, ap, ◌∙◌}
 use Rattle.rules.specs.Refusals.{Outcome, and_then}
 use Rattle.rules.specs.Refusals.Outcome.{fine, refused}
+use Rattle.rules.proofs.Outcomes.{and_then_assoc}
 use Rattle.rules.specs.Tree.{Head}
 use Rattle.names.specs.Sinks.{each}
 use Rattle.analyzer.specs.Readings.{Place, place_at, read_next}
@@ -12,10 +13,9 @@ pub each_read : (a : Here) (hs : List Head) (s : State)
     → each read_next hs (place_at a s) ≡ and_then (each (referred a false) hs s) (λ t. fine (place_at a t))
 each_read a [] s = refl
 each_read a (h ∷ hs) s =
-    elim (referred a false h s) as (λ (o : Outcome State). and_then (and_then o (λ t. fine (place_at a t))) (λ p. each read_next hs p) ≡ and_then (and_then o (λ t. each (referred a false) hs t)) (λ t. fine (place_at a t))) [
-      | fine t ↦ each_read a hs t
-      | refused number at ↦ refl
-    ]
+    and_then_assoc (referred a false h s) (λ t. fine (place_at a t)) (λ p. each read_next hs p)
+    ∙ (λ i. and_then (referred a false h s) (λ t. each_read a hs t i))
+    ∙ sym (and_then_assoc (referred a false h s) (λ t. each (referred a false) hs t) (λ t. fine (place_at a t)))
 
 -- what the readings leave, by what they come to
 pub read_back : (a : Here) (s : State) (o : Outcome State) → and_then o (λ t. fine (place_at a t)) ≡ fine (place_at a s) → o ≡ fine s

@@ -8,7 +8,7 @@ use Rattle.rules.specs.Tree.{Name}
 use Rattle.rules.specs.Names.{same}
 use Rattle.rules.specs.Tables.{NameRow, Counts, fresh, look}
 use Rattle.rules.specs.Rings.{closed, discount_row, discount_rows, discount}
-use Rattle.rules.proofs.SameNames.{look_name}
+use Rattle.rules.proofs.SameNames.{look_name, look_none}
 use Rattle.laws.proofs.TablesFilled.{some_name}
 
 -- a discounted row keeps its name
@@ -20,16 +20,11 @@ pub look_discount : (c : Counts) (n : Name) (rs : List NameRow) → look n (disc
 look_discount c n [] = refl
 look_discount c n (r ∷ rs) = grind (arith, look_discount c n rs, name_kept c r)
 
--- a name without a row reads as a fresh one
-look_missing : (n : Name) (rs : List NameRow) → some_name (same n) rs ≡ false → look n rs ≡ fresh n
-look_missing n [] g = refl
-look_missing n (r ∷ rs) g = grind (arith, look_missing n rs)
-
 module _ (c : Counts) (n : Name) where
   -- outside closed rings nothing is discounted
   pub open_row : closed c n ≡ false → look n (discount c) ≡ look n c.names
-  open_row g = grind (arith, look_discount c n c.names, look_missing n c.names, look_name n c.names)
+  open_row g = grind (arith, look_discount c n c.names, look_none n c.names, look_name n c.names)
 
   -- counted is what was counted
   pub counted_row : (look n (discount c)).counted ≡ (look n c.names).counted
-  counted_row = grind (arith, look_discount c n c.names, look_missing n c.names)
+  counted_row = grind (arith, look_discount c n c.names, look_none n c.names)

@@ -5,3 +5,4 @@ pub mod Reading
 pub mod SameNames
 pub mod Leading
 pub mod Declared
+pub mod Outcomes

@@ -10,13 +10,13 @@ use Rattle.rules.specs.Refusals.Outcome.{fine, refused}
 use Rattle.rules.specs.Counting.{Event, events_of}
 use Rattle.rules.specs.Tables.{Counts, Room, no_rows, reads, writes, need_name, need_edge, grow_edge, hold, enter, fill, names_width, edges_width}
 use Rattle.rules.specs.Calls.{zeroed}
+use Rattle.rules.proofs.Outcomes.{Alike, then_alike, then_alike_within}
 use Rattle.tables.specs.Matching.{Named, name_words, edge_words}
 use Rattle.tables.proofs.Holding.{zeroed_holds}
 use Rattle.data.specs.Events.{name_placed, edge_placed, Tables, tables, joined, joined_all, counted, entered}
 use Rattle.data.specs.Filling.{id_of, ids_of, enter_words, fill_words}
 use Rattle.tally.specs.Tallies.{weight, Told, FilledTold}
 use Rattle.tally.proofs.Naming.{AllNamed, events_named}
-use Rattle.tally.proofs.Outcomes.{Alike, then_alike, then_alike_within}
 use Rattle.tally.proofs.Rows.{light_small}
 use Rattle.tally.proofs.Steps.{Rowed, rowed_less, RowOfName, RowOfEdge, name_step, edge_step, edge_grows, name_grows}
 use Rattle.tally.proofs.Weights.{counts_fit}

@@ -1,6 +1,6 @@
 pub mod Weights
 pub mod Naming
-pub mod Outcomes
+pub mod Needed
 pub mod Rows
 pub mod Steps
 pub mod Filling

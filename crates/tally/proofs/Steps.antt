@@ -11,19 +11,19 @@ use Rattle.rules.specs.Tree.{Name}
 use Rattle.rules.specs.Refusals.{names_full, edges_full}
 use Rattle.rules.specs.Counting.{Event}
 use Rattle.rules.specs.Tables.{NameRow, EdgeRow, Counts, Room, some_row, need, change, fresh, row_of, edge_of, row_number, reads, writes, need_name, need_edge, grow_edge, grow_name, names_width, edges_width}
+use Rattle.rules.proofs.Outcomes.{Alike, alike_then}
 use Rattle.tables.specs.declared.edge_row.Edge.{Edge}
-use Rattle.tables.specs.declared.fault.TableFault.TheVariants.{Names, Edges}
 use Rattle.tables.specs.Counts.{more_counts, with_counted}
 use Rattle.tables.specs.Held.{changed}
-use Rattle.tables.specs.Living.{rows, first_row, change_nth}
-use Rattle.tables.specs.Matching.{name_words, edge_words, NamesHeld, EdgesHeld, id_keyed, ends_keyed, Present, Known, new_edge, ends_of, grown, marked}
+use Rattle.tables.specs.Living.{first_row, change_nth}
+use Rattle.tables.specs.Matching.{name_words, edge_words, NamesHeld, EdgesHeld, Present, Known, new_edge, grown, marked}
 use Rattle.tables.specs.Ready.{Distinct}
 use Rattle.tables.proofs.Changing.{length_change}
 use Rattle.tables.proofs.Numbering.{first_some, numbered_first, number_more, present_more}
-use Rattle.tables.proofs.Matched.{names_needed, names_changed, names_change, edges_needed, edges_changed, edges_change, edges_stay}
+use Rattle.tables.proofs.Matched.{names_told, names_changed, names_change, edges_told, edges_changed, edges_change, edges_stay}
 use Rattle.data.specs.Events.{Placed, name_placed, edge_placed, Tables, tables, made_entry}
 use Rattle.data.specs.Filling.{id_of}
-use Rattle.tally.proofs.Outcomes.{Alike, alike_then, RowThere, RowPlaced, row_placed}
+use Rattle.tally.proofs.Needed.{RowThere, RowPlaced, row_placed}
 use Rattle.tally.proofs.Rows.{Light, LightEdges, light_less, light_edges_less, light_push, light_edges_push, known_push, distinct_push, change_twice, change_none, names_kept, distinct_named, known_change, grows, grows_edge, light_grows, light_edges_grow, made, grown_is, heavier_is}
 
 -- words that hold the book's rows, to each of whose counts k can still be added
@@ -148,35 +148,29 @@ module _ (found found' : List ℕ) where
         → Alike (RowOfName k n t c) (name_placed (id_of n) at t.names) (need_name space at n c)
     unfolding name_placed
     name_step k at n t c z s =
-        alike_then (RowPlaced (row_of n) (fresh n) names_width name_words found c.names) (RowOfName k n t c)
+        let Is = RowPlaced (row_of n) (fresh n) names_width name_words found c.names in
+        alike_then Is (RowOfName k n t c)
         (name_placed (id_of n) at t.names) (need (row_of n) (fresh n) space.names names_full at c.names)
         (λ more. record { names = more; edges = c.edges })
-        (subst (λ (j : ℕ). Alike (RowPlaced (row_of n) (fresh n) names_width name_words found c.names) (name_placed (id_of n) at t.names) (need (row_of n) (fresh n) j names_full at c.names)) (sym en)
-        (row_placed (row_of n) (fresh n) names_width name_words found c.names names_full at t.names (Names at) (first_row (id_keyed (id_of n)) (rows names_width t.names)) refl refl s.names_held
-        (names_needed found c.names t.names (id_of n) at s.names_held z)))
+        (subst (λ (j : ℕ). Alike Is (name_placed (id_of n) at t.names) (need (row_of n) (fresh n) j names_full at c.names)) (sym en)
+        (row_placed (row_of n) (fresh n) names_width name_words found c.names names_full at t.names _ _
+        (names_told (id_of n) at t.names _ _ refl refl found c.names z s.names_held)))
         (λ p more r. name_row k n t c p more s r)
-
-    edge_step_ends : (k at : ℕ) (a b : Name) (t : Tables) (c : Counts) → Present c.names a → Present c.names b → Rowed k found found' t c
-        → Alike (RowOfEdge k a b t) (edge_placed (ends_of c.names a b) at t.edges) (need_edge space at a b c)
-    unfolding edge_placed
-    edge_step_ends k at a b t c pa pb s =
-        let edge = ends_of c.names a b in
-        let Is = RowPlaced (edge_of a b) (new_edge a b) edges_width (edge_words c.names) found' c.edges in
-        alike_then Is (RowOfEdge k a b t)
-        (edge_placed edge at t.edges) (need (edge_of a b) (new_edge a b) space.edges edges_full at c.edges)
-        (λ more. record { names = c.names; edges = more })
-        (subst (λ (j : ℕ). Alike Is (edge_placed edge at t.edges) (need (edge_of a b) (new_edge a b) j edges_full at c.edges)) (sym ee)
-        (row_placed (edge_of a b) (new_edge a b) edges_width (edge_words c.names) found' c.edges edges_full at t.edges (Edges at) (first_row (ends_keyed edge) (rows edges_width t.edges)) refl refl s.edges_held
-        (edges_needed c.names found' c.edges t.edges a b at s.known pa pb s.edges_held)))
-        (λ p more r. edge_row k a b t c p more s pa pb r)
 
     -- by the rows of its two names
     pub edge_step : (k at : ℕ) (a b : Name) (edge : Edge) (t : Tables) (c : Counts) → edge.from ≡ row_number a c.names → edge.to ≡ row_number b c.names
         → Present c.names a → Present c.names b → Rowed k found found' t c
         → Alike (RowOfEdge k a b t) (edge_placed edge at t.edges) (need_edge space at a b c)
+    unfolding edge_placed
     edge_step k at a b edge t c fa fb pa pb s =
-        let one : edge ≡ ends_of c.names a b = λ i. record { from = fa i; to = fb i } in
-        subst (λ (x : Edge). Alike (RowOfEdge k a b t) (edge_placed x at t.edges) (need_edge space at a b c)) (sym one) (edge_step_ends k at a b t c pa pb s)
+        let Is = RowPlaced (edge_of a b) (new_edge a b) edges_width (edge_words c.names) found' c.edges in
+        alike_then Is (RowOfEdge k a b t)
+        (edge_placed edge at t.edges) (need (edge_of a b) (new_edge a b) space.edges edges_full at c.edges)
+        (λ more. record { names = c.names; edges = more })
+        (subst (λ (j : ℕ). Alike Is (edge_placed edge at t.edges) (need (edge_of a b) (new_edge a b) j edges_full at c.edges)) (sym ee)
+        (row_placed (edge_of a b) (new_edge a b) edges_width (edge_words c.names) found' c.edges edges_full at t.edges _ _
+        (edges_told edge at t.edges _ _ refl refl c.names found' c.edges a b s.known pa pb fa fb s.edges_held)))
+        (λ p more r. edge_row k a b t c p more s pa pb r)
 
   pub edge_grows : (k : ℕ) (e : Event) (a : Name) (n : ℕ) (t : Tables) (c : Counts) → Rowed (suc k) found found' t c → first_row (edge_of a e.name) c.edges ≡ Some n
       → Rowed k found found' (tables t.names (changed edges_width n (more_counts (reads e) (writes e)) t.edges)) (grow_edge e a c)

@@ -2,21 +2,16 @@
 --
 --   row_read      for words that hold rows
 --   by_held       so a removal by the words is a removal by the rows that they hold
-use Rattle.std.proofs.Common.{◌≡◌, ℕ, Bool, true, false, not, eqb, List, [], ◌∷◌, Some, None, sym, refl, ap, ◌∙◌, ⊎_elim, arith}
+use Rattle.std.proofs.Common.{◌≡◌, ℕ, Bool, true, false, not, eqb, List, Some, None, sym, ap, ◌∙◌, ⊎_elim}
 use Rattle.std.proofs.lemmas.Bool.{cond-true, cond-false, cases_Bool}
 use Rattle.rules.specs.Tree.{Name}
-use Rattle.rules.specs.Tables.{NameRow, some_row, fresh, look, row_of, bit, row_number, names_width, read_declared}
+use Rattle.rules.specs.Tables.{NameRow, some_row, look, row_of, bit, row_number, names_width, read_declared}
 use Rattle.rules.specs.Removal.{Config, going_by}
-use Rattle.rules.proofs.SameNames.{look_name}
+use Rattle.rules.proofs.SameNames.{look_name, look_none}
 use Rattle.tables.specs.Living.{rows, first_row}
 use Rattle.tables.specs.Matching.{NamesHeld, id_keyed, numbered, Present}
 use Rattle.tables.proofs.Matched.{names_found, names_numbered, names_read, names_change}
 use Rattle.verdicts.specs.Grounds.{row_at, row_in_words, by_words}
-
--- the row that the book looks at is a fresh one where there is none
-look_none : (n : Name) (rs : List NameRow) → some_row (row_of n) rs ≡ false → look n rs ≡ fresh n
-look_none n [] e = refl
-look_none n (r ∷ rs) e = grind (arith, look_none n rs)
 
 -- a flag read from its word
 flag_back : (b : Bool) (w : ℕ) → w ≡ bit b → not (eqb w 0) ≡ b

@@ -1,5 +1,5 @@
 -- The words of a table without rows agree with the book's rows, name by name, from the zeroed table on.
-use Rattle.std.proofs.Common.{◌≡◌, [], rules}
+use Rattle.std.proofs.Common.{[], rules}
 use Rattle.records.specs.Chains.{as_chain}
 use Rattle.rules.specs.Grammar.{root}
 use Rattle.rules.specs.Names.{declared, under_nothing}
