@@ -3,7 +3,7 @@
 --   handed            the words of tree and tables
 --   lengths_fit       what every call tests
 --   config_by         the settings of a call
---   state             what a call finds, or leaves
+--   state_by, state   what a call finds, or leaves
 use Rattle.std.specs.Prelude.{ℕ, Bool, ◌&&◌, List, length, nat_le}
 use Rattle.rules.specs.Tree.{Chain}
 use Rattle.rules.specs.Check.{tree_fits}
@@ -29,6 +29,10 @@ lengths_fit tree declared names edges retain =
 abbrev pub config_by : {J : Type 0} → (acts : J → Chain → Bool) → TreeShaker J → (retain : List ℕ) → Config
 config_by acts s retain = config_of s.config (acts s.judge) retain
 
--- what a call finds, or leaves, in the caller's words and in the shaker
+-- what a call finds, or leaves, in the caller's words, given whether something was changed
+abbrev pub state_by : (tree declared names edges : List ℕ) → (changed : Bool) → State
+state_by tree declared names edges changed = start (handed tree declared names edges) changed
+
+-- and in the shaker
 abbrev pub state : {J : Type 0} → (tree declared names edges : List ℕ) → TreeShaker J → State
 state tree declared names edges s = start (handed tree declared names edges) s.changed

@@ -1,13 +1,38 @@
 ghost use Rattle.std.specs.Prelude.{◌≡◌};
+ghost use Rattle.dce.specs.declared.fault.BeginFault.TheVariants.{Lengths as begin_lengths, Memory};
 ghost use Rattle.dce.specs.declared.fault.PassFault.TheVariants.{Lengths, Check, Count};
 
 use analyzer::CountFault;
 use checker::CheckFault;
-use tables::TableFault;
+use std::alloc::AllocError;
 
 /// Tree, tables or retain list are too long, or the tree has no words or no whole number of records.
 #[derive(Clone, Copy, PartialEq, Eq, Debug)]
 pub struct LengthsFault;
+
+/// Why a shaker is not begun.
+#[derive(Clone, Copy, PartialEq, Eq, Debug)]
+pub enum BeginFault {
+    Lengths(LengthsFault),
+    /// There is no memory for the work of the calls.
+    Memory,
+}
+
+impl From<LengthsFault> for BeginFault {
+    ghost from_gives = { λ x y. y ≡ begin_lengths x };
+
+    fn from(fault: LengthsFault) -> BeginFault {
+        BeginFault::Lengths(fault)
+    }
+}
+
+impl From<AllocError> for BeginFault {
+    ghost from_gives = { λ _ y. y ≡ Memory };
+
+    fn from(_: AllocError) -> BeginFault {
+        BeginFault::Memory
+    }
+}
 
 /// Why a pass is refused.
 #[derive(Clone, Copy, PartialEq, Eq, Debug)]

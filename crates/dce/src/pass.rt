@@ -1,18 +1,21 @@
-ghost use Rattle.std.specs.Prelude.{◌≡◌, ℕ, true, List};
-ghost use Rattle.rules.specs.Refusals.{Says};
+ghost use Rattle.std.specs.Prelude.{◌≡◌, ℕ, Bool, true, List};
+ghost use Rattle.rules.specs.Refusals.{Outcome, Says};
 ghost use Rattle.rules.specs.Refusals.Outcome.{fine};
 ghost use Rattle.rules.specs.Words.{tree_of};
 ghost use Rattle.rules.specs.Check.{check};
 ghost use Rattle.rules.specs.Tables.{NameRow, read_declared};
 ghost use Rattle.rules.specs.Removal.{at_root, going_by, treat};
 ghost use Rattle.tables.specs.Matching.{NamesHeld};
-ghost use Rattle.rules.specs.Calls.{pass_once};
+ghost use Rattle.rules.specs.Calls.{pass_once, call};
+ghost use Rattle.rules.specs.Calls.Call.{pass};
+ghost use Rattle.rules.specs.Calls.Answer.{pass_answer};
 ghost use Rattle.dce.specs.Calls.{lengths_fit, config_by, state};
 ghost use Rattle.dce.specs.Faults.{number as number_of, place as place_of};
 
 use crate::discount::discount;
 use crate::fault::PassFault;
 use crate::fill::fill_tables;
+use crate::lengths::check_lengths;
 use crate::tree_shaker::TreeShaker;
 use checker::check;
 use judge::Judge;
@@ -21,6 +24,25 @@ use removal::remove;
 use verdicts::Basis;
 
 impl<J: Judge> TreeShaker<J> {
+    /// Makes a pass: checks the tree, fills the tables from it, discounts, and removes what the rules take. It says whether
+    /// something was changed since the shaker was begun or reset.
+    pub fn pass(
+        &mut self,
+        tree: &mut [u32],
+        declared: &mut [u32],
+        names: &mut [u32],
+        edges: &mut [u32],
+        retain: &[u32],
+    ) -> Result<bool, PassFault>
+        ensures answer { (o : Outcome Bool) × ((call (config_by J.Judge.acts self.old retain.now) pass (state tree.old declared.old names.old edges.old self.old)).answer ≡ pass_answer o) × Says o (λ b. b) number_of place_of result }
+        ensures state { state tree.new declared.new names.new edges.new self.new ≡ (call (config_by J.Judge.acts self.old retain.now) pass (state tree.old declared.old names.old edges.old self.old)).state }
+        ensures config { self.new.config ≡ self.old.config }
+        ensures judge { self.new.judge ≡ self.old.judge }
+    {
+        check_lengths(tree, declared, names, edges, retain)?;
+        self.pass_once(tree, declared, names, edges, retain)
+    }
+
     /// A pass over words whose lengths fit: checks the tree, fills the tables, discounts, and removes.
     pub(crate) fn pass_once(
         &mut self,
