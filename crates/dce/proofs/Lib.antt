@@ -2,3 +2,5 @@ mod Filling
 mod Discounting
 mod Passing
 mod Repeating
+mod Running
+mod Lawful

@@ -8,10 +8,12 @@ mod lengths;
 mod pass;
 mod repeat;
 mod reset;
+mod runs;
 mod tree_shaker;
 
 pub use discount::WORK;
 pub use fault::{BeginFault, LengthsFault, PassFault, RepeatFault};
 pub use lengths::MOST_TABLE_WORDS;
 pub use repeat::Repeated;
+pub use runs::{Answer, Call, Ran, run};
 pub use tree_shaker::TreeShaker;
