@@ -1,19 +1,13 @@
 -- What discounting leaves are the book's rows, and an edge keeps its words.
-use Rattle.std.proofs.Common.{◌≡◌, ℕ, suc, ◌+◌, ◌*◌, ◌/◌, ◌^◌, ◌<◌, ◌≤◌, true, false, List, [], ◌∷◌, length, refl, ap, sym, ◌∙◌, subst, ⊎_elim, arith}
+use Rattle.std.proofs.Common.{◌≡◌, ℕ, suc, ◌/◌, ◌≤◌, true, false, List, [], ◌∷◌, length, refl, ap, sym, ◌∙◌, subst, ⊎_elim}
 use Rattle.std.proofs.lemmas.Bool.{cases_Bool, cond-true, cond-false}
-use Rattle.rules.specs.Names.{same}
 use Rattle.rules.specs.Tables.{NameRow, Counts, names_width, edges_width, edges_in_words, table}
 use Rattle.rules.specs.Rings.{component, closed, less, discount_row, discount_rows, discount}
-use Rattle.rules.specs.Calls.{most_table_words}
 use Rattle.tables.specs.Held.{Proper}
-use Rattle.tables.specs.Living.{used}
-use Rattle.tables.specs.Matching.{name_words, edge_words, NamesHeld, EdgesHeld, Named, names_of}
-use Rattle.tables.proofs.Cutting.{rows_within}
-use Rattle.tables.proofs.Holding.{holds_used}
+use Rattle.tables.specs.Matching.{name_words, NamesHeld, Named, names_of}
 use Rattle.tables.proofs.Matched.{names_words, edges_words, edges_stay}
 use Rattle.rings.specs.Ringed.{Ready}
-use Rattle.rings.specs.Spending.{Subtracted, NotEnough}
-use Rattle.dce.specs.Discounting.{most_work}
+use Rattle.rings.specs.Spending.{Subtracted}
 
 discount_name : (c : Counts) (r : NameRow) → (discount_row c r).name ≡ r.name
 discount_name c r =

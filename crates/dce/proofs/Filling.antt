@@ -6,8 +6,8 @@ use Rattle.rules.specs.Refusals.{Outcome, and_then}
 use Rattle.rules.specs.Refusals.Outcome.{fine, refused}
 use Rattle.rules.specs.Counting.{events_of}
 use Rattle.rules.specs.Held.{Tree}
-use Rattle.rules.specs.Tables.{declared_width, Counts, Room, room, fill, no_rows, names_width, edges_width, read_declared}
-use Rattle.rules.specs.Calls.{Filled, fill_declared, fill_tables, declared_after, zeroed}
+use Rattle.rules.specs.Tables.{declared_width, Counts, room, fill, no_rows, names_width, edges_width, read_declared}
+use Rattle.rules.specs.Calls.{fill_tables, declared_after, zeroed}
 use Rattle.tables.specs.Living.{used}
 use Rattle.tables.specs.Ready.{Ready}
 use Rattle.tables.proofs.Matched.{declared_read}

@@ -1,20 +1,19 @@
 -- A completed pass: what it answers and leaves is the book's.
-use Rattle.std.proofs.Common.{◌≡◌, ℕ, ◌+◌, ◌*◌, ◌/◌, ◌≤◌, Bool, true, ◌||◌, List, length, ap, sym, ◌∙◌, arith, rules}
+use Rattle.std.proofs.Common.{◌≡◌, ℕ, ◌*◌, ◌≤◌, Bool, ◌||◌, List, length, ap, sym, ◌∙◌, arith, rules}
 use Rattle.rules.specs.Tree.{Chain, reached}
-use Rattle.rules.specs.Refusals.{Outcome}
 use Rattle.rules.specs.Refusals.Outcome.{fine}
 use Rattle.rules.specs.Check.{check}
 use Rattle.rules.specs.Held.{Tree}
-use Rattle.rules.specs.Tables.{names_width, read_declared}
+use Rattle.rules.specs.Tables.{read_declared}
 use Rattle.rules.specs.Rings.{discount}
 use Rattle.rules.specs.Removal.{Config, By, at_root, going_by, treat}
-use Rattle.rules.specs.Calls.{State, Filled, Pass, start, pass_once, pass_checked, pass_filled, pass_by, passed}
+use Rattle.rules.specs.Calls.{start, pass_once, pass_checked, pass_filled, pass_by}
 use Rattle.rules.proofs.Sounds.{check_most}
 use Rattle.rings.specs.Spending.{Subtracted}
 use Rattle.dce.specs.Filling.{FilledTables}
 use Rattle.dce.specs.Calls.{handed}
 use Rattle.dce.specs.Discounting.{most_work}
-use Rattle.dce.proofs.Discounting.{discounted_held, edges_left}
+use Rattle.dce.proofs.Discounting.{edges_left}
 
 -- the work memory has two words for each record
 pub few_records : (words : List ℕ) (tree : Chain) → check words ≡ fine tree → Tree words tree → 2 * reached tree ≤ most_work

@@ -8,12 +8,17 @@ use Rattle.std.proofs.lemmas.List.{get_or-set_same, get_or-set_other}
 use Rattle.rules.specs.Tree.{Chain}
 use Rattle.rules.specs.Removal.{Config}
 use Rattle.rules.specs.Calls.{State, call, calls, final}
-use Rattle.rules.specs.Calls as book
-use Rattle.dce.specs.Calls.{lengths_fit, config_by, state}
+use Rattle.dce.specs.Calls.{config_by, state}
 use Rattle.dce.specs.Running.{call_of, answer_of}
 use Rattle.dce.specs.declared.runs.Call.{Call}
 use Rattle.dce.specs.declared.runs.Answer.{Answer}
 use Rattle.dce.specs.declared.tree_shaker.TreeShaker.{TreeShaker}
+
+-- what stands at a place is the same whatever stands past the end
+pub same_at : (xs : List Call) (n : ℕ) (z w : Call) → n < length xs → get_or xs n z ≡ get_or xs n w
+same_at [] n z w h = absurd (omega (arith, h))
+same_at (x ∷ xs) zero z w h = refl
+same_at (x ∷ xs) (suc n) z w h = same_at xs n z w (omega (arith, h))
 
 -- the state after so many calls
 abbrev pub after : Config → List Call → State → ℕ → State
@@ -62,7 +67,7 @@ runs_on acts k cs s n now next t d m e t' d' m' e' retain answers c r run h is t
       ∙ (λ i. (call (run.config i) (call_of c) (run.state i)).state)
       ∙ ap (λ x. (call k (call_of x) (after k cs s n)).state) (sym (is c))
       ∙ sym (after_next k cs s n c h)
-      ∙ ap (λ (j : ℕ). after k cs s j) (omega arith);
+      ∙ ap (λ (j : ℕ). after k cs s j) {x = suc n} {y = n + 1} (omega arith);
   answered = λ j low a z. answered_at j low a z;
   many = length-set answers n r ∙ run.many;
   config = same ∙ run.config;
@@ -78,5 +83,5 @@ runs_on acts k cs s n now next t d m e t' d' m' e' retain answers c r run h is t
         ∙ (λ i. (call (run.config i) (call_of c) (run.state i)).answer)
         ∙ ap (λ x. (call k (call_of x) (after k cs s n)).answer) (sym (is z))
         ∙ ap (λ (i : ℕ). (call k (call_of (get_or cs i z)) (after k cs s i)).answer) (sym e))
-        (λ (ne : j ≡ n → ⊥). ap answer_of (get_or-set_other answers n j r a (λ e. ne (sym e))) ∙ run.answered j (omega (arith, low, ne)) a z)
+        (λ (ne : j ≡ n → ⊥). ap answer_of (get_or-set_other answers n j r a ne) ∙ run.answered j (omega (arith, low, ne)) a z)
         (cases_eq j n)

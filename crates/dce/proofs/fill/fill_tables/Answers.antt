@@ -1,6 +1,4 @@
 use Rattle.std.proofs.Common.{◌∙◌, rules}
-use Rattle.rules.specs.Calls.{declared_after, zeroed}
-use Rattle.rules.specs.Tables.{names_width, edges_width}
 use Rattle.dce.proofs.Filling.{emptied, kept}
 use Rattle.dce.proofs.fill.fill_tables.Goals.{then-not-kept, else-not-kept}
 use Rattle.dce.proofs.fill.fill_tables.Goals as goal

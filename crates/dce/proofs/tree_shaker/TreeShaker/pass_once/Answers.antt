@@ -3,7 +3,6 @@ use Rattle.rules.specs.Rings.{discount}
 use Rattle.rules.specs.Words.{tree_of}
 use Rattle.records.specs.Chains.{as_chain}
 use Rattle.dce.specs.Calls.{config_by}
-use Rattle.dce.specs.Filling.{FilledTables}
 use Rattle.dce.proofs.Discounting.{discounted_held}
 use Rattle.dce.proofs.Passing.{few_records, pass_answer, pass_state}
 use Rattle.dce.proofs.tree_shaker.TreeShaker.pass_once.Goals as goal

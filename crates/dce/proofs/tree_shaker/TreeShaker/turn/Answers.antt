@@ -1,8 +1,6 @@
-use Rattle.std.proofs.Common.{ap, ◌∙◌}
-use Rattle.rules.specs.Removal.{Config}
-use Rattle.rules.specs.Calls.{State, cleared, pass_once}
+use Rattle.std.proofs.Common.{◌∙◌}
+use Rattle.rules.specs.Calls.{pass_once}
 use Rattle.verdicts.specs.Grounds.{config_of}
-use Rattle.dce.specs.Calls.{state}
 use Rattle.dce.proofs.tree_shaker.TreeShaker.turn.Goals as goal
 
 pub returns-in-Err-clause-state : goal.returns-in-Err-clause-state
