@@ -13,8 +13,6 @@ use anyhow::{Context, ensure};
 use std::{env, fs};
 use text::Cases;
 
-const END: &[u8] = b"end\n";
-
 fn main(rt: HostRuntime) -> anyhow::Result<()> {
     for name in env::args(&rt)?.skip(1) {
         replay_files(&rt, name.as_str())?;
@@ -44,12 +42,7 @@ fn replay_cases(rt: &HostRuntime, text: &[u8], answers: &[u8]) -> anyhow::Result
     let mut stored = answers;
     while let Some(case) = cases.next_case(rt.alloc())? {
         let transcript = Transcript::of(rt.alloc(), &case)?;
-        let rest = difference::behind(rt, &case, stored, transcript.text.as_str())?;
-        stored = if transcript.complete {
-            rest
-        } else {
-            behind_case(rest)
-        };
+        stored = difference::behind(rt, &case, stored, transcript.text.as_str())?;
         agreement.add(&transcript);
     }
     ensure!(
@@ -57,12 +50,4 @@ fn replay_cases(rt: &HostRuntime, text: &[u8], answers: &[u8]) -> anyhow::Result
         "answers are stored behind those of the last case"
     );
     Ok(agreement)
-}
-
-// What stands behind the line that ends a case.
-fn behind_case(stored: &[u8]) -> &[u8] {
-    match stored.windows(END.len()).position(|line| line == END) {
-        Some(n) => &stored[n + END.len()..],
-        None => &[],
-    }
 }

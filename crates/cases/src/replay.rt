@@ -3,7 +3,7 @@ ghost use Rattle.std.specs.Prelude.{◌≡◌, false, replicate, IfOk};
 
 use answers::{Answer, CallText, Refusal};
 use anyhow::anyhow;
-use dce::TreeShaker;
+use dce::{RepeatFault, Repeated, TreeShaker};
 use judge::Judge;
 use std::alloc::{AllocError, Global};
 use text::{Call, Case};
@@ -50,12 +50,12 @@ impl<'c, J: Judge + Copy> Replay<'c, J> {
     }
 
     /// Makes a call.
-    pub fn make(&mut self, call: Call) -> Option<Answer> {
+    pub fn make(&mut self, call: Call) -> Answer {
         match call {
-            Call::Begin => Some(Answer::Begin(self.begin())),
-            Call::Pass => Some(Answer::Pass(self.pass())),
-            Call::Reset => Some(Answer::Reset(self.reset())),
-            Call::Repeat => None,
+            Call::Begin => Answer::Begin(self.begin()),
+            Call::Pass => Answer::Pass(self.pass()),
+            Call::Reset => Answer::Reset(self.reset()),
+            Call::Repeat => self.repeat(),
         }
     }
 
@@ -93,6 +93,26 @@ impl<'c, J: Judge + Copy> Replay<'c, J> {
             self.retain,
         )?;
         Ok(())
+    }
+
+    fn repeat(&mut self) -> Answer {
+        let repeated = self.shaker.repeat(
+            self.tree.as_mut_slice(),
+            self.declared.as_mut_slice(),
+            self.names.as_mut_slice(),
+            self.edges.as_mut_slice(),
+            self.retain,
+        );
+        match repeated {
+            Ok(Repeated { passes, reached }) => Answer::Repeat {
+                passes,
+                reached: Ok(reached),
+            },
+            Err(RepeatFault { fault, passes }) => Answer::Repeat {
+                passes,
+                reached: Err(fault.into()),
+            },
+        }
     }
 
     /// Tells a call that was just made: what it returned, and what it left.
