@@ -1,3 +1,4 @@
 mod Filling
 mod Discounting
 mod Passing
+mod Repeating

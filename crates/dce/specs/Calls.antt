@@ -4,13 +4,19 @@
 --   lengths_fit       what every call tests
 --   config_by         the settings of a call
 --   state_by, state   what a call finds, or leaves
-use Rattle.std.specs.Prelude.{ℕ, Bool, ◌&&◌, List, length, nat_le}
+--   told              a repeat's answer
+use Rattle.std.specs.Prelude.{ℕ, Bool, ◌&&◌, List, length, nat_le, Ok, Err, Result}
 use Rattle.rules.specs.Tree.{Chain}
 use Rattle.rules.specs.Check.{tree_fits}
 use Rattle.rules.specs.Removal.{Config}
 use Rattle.rules.specs.Calls.{State, Handed, start, most_table_words}
+use Rattle.rules.specs.Calls as book
+use Rattle.rules.specs.Calls.Repeated.{repeated, stopped}
 use Rattle.verdicts.specs.Grounds.{config_of}
 use Rattle.dce.specs.declared.tree_shaker.TreeShaker.{TreeShaker}
+use Rattle.dce.specs.declared.fault.RepeatFault.{RepeatFault}
+use Rattle.dce.specs.declared.repeat.Repeated.{Repeated}
+use Rattle.dce.specs.Faults.{number, place}
 
 -- the words of tree and tables
 abbrev pub handed : (tree declared names edges : List ℕ) → Handed
@@ -36,3 +42,8 @@ state_by tree declared names edges changed = start (handed tree declared names e
 -- and in the shaker
 abbrev pub state : {J : Type 0} → (tree declared names edges : List ℕ) → TreeShaker J → State
 state tree declared names edges s = start (handed tree declared names edges) s.changed
+
+-- a repeat's answer, as the book has it
+abbrev pub told : Result Repeated RepeatFault → book.Repeated
+told (Ok done) = repeated done.passes done.reached
+told (Err e) = stopped (number e.fault) (place e.fault) e.passes

@@ -1,5 +1,6 @@
 ghost use Rattle.std.specs.Prelude.{◌≡◌};
 ghost use Rattle.dce.specs.declared.fault.BeginFault.TheVariants.{Lengths as begin_lengths, Memory};
+ghost use Rattle.dce.specs.declared.fault.RepeatFault.{RepeatFault};
 ghost use Rattle.dce.specs.declared.fault.PassFault.TheVariants.{Lengths, Check, Count};
 
 use analyzer::CountFault;
@@ -63,5 +64,21 @@ impl From<CountFault> for PassFault {
 
     fn from(fault: CountFault) -> PassFault {
         PassFault::Count(fault)
+    }
+}
+
+/// Why a repeat is refused, and how many passes it had made.
+#[derive(Clone, Copy, PartialEq, Eq, Debug)]
+pub struct RepeatFault {
+    pub fault: PassFault,
+    pub passes: u32,
+}
+
+impl From<PassFault> for RepeatFault {
+    ghost from_gives = { λ x y. y ≡ record { fault = x; passes = 0 } };
+
+    /// The first pass was refused.
+    fn from(fault: PassFault) -> RepeatFault {
+        RepeatFault { fault, passes: 0 }
     }
 }

@@ -1,4 +1,4 @@
-ghost use Rattle.std.specs.Prelude.{◌≡◌, ℕ, Bool, true, List};
+ghost use Rattle.std.specs.Prelude.{◌≡◌, ℕ, Bool, true, List, IfOk};
 ghost use Rattle.rules.specs.Refusals.{Outcome, Says};
 ghost use Rattle.rules.specs.Refusals.Outcome.{fine};
 ghost use Rattle.rules.specs.Words.{tree_of};
@@ -6,7 +6,7 @@ ghost use Rattle.rules.specs.Check.{check};
 ghost use Rattle.rules.specs.Tables.{NameRow, read_declared};
 ghost use Rattle.rules.specs.Removal.{at_root, going_by, treat};
 ghost use Rattle.tables.specs.Matching.{NamesHeld};
-ghost use Rattle.rules.specs.Calls.{pass_once, call};
+ghost use Rattle.rules.specs.Calls.{pass_once, reached_by, call};
 ghost use Rattle.rules.specs.Calls.Call.{pass};
 ghost use Rattle.rules.specs.Calls.Answer.{pass_answer};
 ghost use Rattle.dce.specs.Calls.{lengths_fit, config_by, state};
@@ -22,6 +22,13 @@ use judge::Judge;
 use records::{Children, MOST_NESTING, ROOT};
 use removal::remove;
 use verdicts::Basis;
+
+/// A completed pass: whether something was changed since the shaker was begun or reset, and how many records the check reached.
+#[derive(Clone, Copy)]
+pub(crate) struct Passed {
+    pub(crate) changed: bool,
+    pub(crate) reached: u32,
+}
 
 impl<J: Judge> TreeShaker<J> {
     /// Makes a pass: checks the tree, fills the tables from it, discounts, and removes what the rules take. It says whether
@@ -40,7 +47,8 @@ impl<J: Judge> TreeShaker<J> {
         ensures judge { self.new.judge ≡ self.old.judge }
     {
         check_lengths(tree, declared, names, edges, retain)?;
-        self.pass_once(tree, declared, names, edges, retain)
+        let passed = self.pass_once(tree, declared, names, edges, retain)?;
+        Ok(passed.changed)
     }
 
     /// A pass over words whose lengths fit: checks the tree, fills the tables, discounts, and removes.
@@ -51,14 +59,15 @@ impl<J: Judge> TreeShaker<J> {
         names: &mut [u32],
         edges: &mut [u32],
         retain: &[u32],
-    ) -> Result<bool, PassFault>
+    ) -> Result<Passed, PassFault>
         requires { lengths_fit tree.old declared.old names.old edges.old retain.now ≡ true }
-        ensures answer { Says (pass_once (config_by J.Judge.acts self.old retain.now) (state tree.old declared.old names.old edges.old self.old)).answer (λ b. b) number_of place_of result }
+        ensures answer { Says (pass_once (config_by J.Judge.acts self.old retain.now) (state tree.old declared.old names.old edges.old self.old)).answer (λ p. p.changed) number_of place_of result }
+        ensures reached { IfOk result (λ p. p.reached ≡ reached_by (check tree.old)) }
         ensures state { state tree.new declared.new names.new edges.new self.new ≡ (pass_once (config_by J.Judge.acts self.old retain.now) (state tree.old declared.old names.old edges.old self.old)).state }
         ensures config { self.new.config ≡ self.old.config }
         ensures judge { self.new.judge ≡ self.old.judge }
     {
-        check(tree)?;
+        let reached = check(tree)?;
         let work = self.work.as_mut_slice();
         fill_tables(
             Children::within(tree, ROOT, MOST_NESTING),
@@ -70,7 +79,10 @@ impl<J: Judge> TreeShaker<J> {
         discount(names, edges, work);
         let removed = self.remove(tree, declared, names, retain);
         self.changed |= removed;
-        Ok(self.changed)
+        Ok(Passed {
+            changed: self.changed,
+            reached,
+        })
     }
 
     /// Removes from a checked tree by the tables that were filled from it, and says whether something was removed.

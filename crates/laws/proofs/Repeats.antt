@@ -45,11 +45,11 @@ module _ (k : Config) (s : State) (fresh : s.changed ≡ false) (r : Ready s.tre
   ready_found : Ready (fine p.found)
   ready_found = subst Ready e r
 
-  reached_found : reached_by s.tree ≡ reached p.found
+  pub reached_found : reached_by s.tree ≡ reached p.found
   reached_found = ap reached_by e
 
   -- a pass that changed something has lost a record
-  changed_lost : (passed k s p).changed ≡ true → reached (remove k p).chain < reached p.found
+  pub changed_lost : (passed k s p).changed ≡ true → reached (remove k p).chain < reached p.found
   changed_lost c = lost_reached (pass_by k p.filled) at_root root p.found ready_found
       (grind (arith, fresh, c))
 
