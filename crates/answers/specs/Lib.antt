@@ -1,3 +1,4 @@
 pub mod Lines
 pub mod Returned
+pub mod Calls
 pub mod Differing

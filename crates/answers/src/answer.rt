@@ -1,9 +1,14 @@
 ghost use Rattle.std.specs.Prelude.{◌≡◌, Some};
+ghost use Rattle.rules.specs.Refusals.{bad_lengths};
 ghost use Rattle.checker.specs.Faults as checks;
 ghost use Rattle.tables.specs.Faults as fills;
+ghost use Rattle.analyzer.specs.CountFaults as counts;
+ghost use Rattle.dce.specs.Faults as calls;
 ghost use Rattle.answers.specs.Returned.{told, answer_text};
 
+use analyzer::CountFault;
 use checker::CheckFault;
+use dce::{BeginFault, LengthsFault, PassFault};
 use std::fmt;
 use tables::TableFault;
 
@@ -50,6 +55,56 @@ impl From<TableFault> for Refusal {
             TableFault::Edges(at) => (7, at),
         };
         Refusal { number, record }
+    }
+}
+
+impl From<CountFault> for Refusal {
+    ghost from_gives = { λ e r. r ≡ record { number = counts.number e; «record» = counts.place e } };
+
+    /// A count was stopped.
+    fn from(fault: CountFault) -> Refusal {
+        let CountFault::Table(fault) = fault;
+        fault.into()
+    }
+}
+
+impl From<LengthsFault> for Refusal {
+    ghost from_gives = { λ _ r. r ≡ record { number = bad_lengths; «record» = 0 } };
+
+    /// The lengths do not fit.
+    fn from(_: LengthsFault) -> Refusal {
+        Refusal {
+            number: 1,
+            record: 0,
+        }
+    }
+}
+
+impl From<BeginFault> for Refusal {
+    ghost from_gives = { λ e r. r ≡ record { number = calls.begin_number e; «record» = 0 } };
+
+    /// A shaker was not begun.
+    fn from(fault: BeginFault) -> Refusal {
+        match fault {
+            BeginFault::Lengths(fault) => fault.into(),
+            BeginFault::Memory => Refusal {
+                number: 13,
+                record: 0,
+            },
+        }
+    }
+}
+
+impl From<PassFault> for Refusal {
+    ghost from_gives = { λ e r. r ≡ record { number = calls.number e; «record» = calls.place e } };
+
+    /// A pass was refused.
+    fn from(fault: PassFault) -> Refusal {
+        match fault {
+            PassFault::Lengths(fault) => fault.into(),
+            PassFault::Check(fault) => fault.into(),
+            PassFault::Count(fault) => fault.into(),
+        }
     }
 }
 

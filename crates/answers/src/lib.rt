@@ -2,11 +2,13 @@
 #![tactic(auto)]
 
 mod answer;
+mod call;
 mod compare;
 mod rows;
 mod tree;
 
 pub use answer::{Answer, Refusal};
+pub use call::CallText;
 pub use compare::{Difference, agreed};
 pub use rows::TableText;
 pub use tree::TreeText;

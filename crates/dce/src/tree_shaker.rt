@@ -1,4 +1,4 @@
-ghost use Rattle.std.specs.Prelude.{◌≤◌, vec_len};
+ghost use Rattle.std.specs.Prelude.{◌≡◌, ◌≤◌, vec_len};
 ghost use Rattle.dce.specs.Discounting.{most_work};
 
 use verdicts::Config;
@@ -12,4 +12,13 @@ pub struct TreeShaker<J> {
     pub(crate) changed: bool,
     pub(crate) work: Vec<u32>,
     ghost long: { most_work ≤ vec_len work },
+}
+
+impl<J> TreeShaker<J> {
+    /// Whether something was changed since the shaker was begun or reset.
+    pub fn changed(&self) -> bool
+        ensures { result ≡ self.now.changed }
+    {
+        self.changed
+    }
 }

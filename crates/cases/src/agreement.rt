@@ -1,0 +1,29 @@
+// How much of what was stored came out.
+use crate::transcript::Transcript;
+use std::fmt;
+
+/// Cases, calls and lines that agree.
+#[derive(Clone, Copy, Default)]
+pub struct Agreement {
+    cases: usize,
+    calls: usize,
+    lines: usize,
+}
+
+impl Agreement {
+    /// Adds a case that agrees.
+    pub fn add(&mut self, transcript: &Transcript) {
+        self.cases = self.cases.saturating_add(1);
+        self.calls = self.calls.saturating_add(transcript.calls);
+        self.lines = self.lines.saturating_add(transcript.text.lines().count());
+    }
+}
+
+impl fmt::Display for Agreement {
+    fn fmt<W: fmt::Write>(&self, f: &mut fmt::Formatter<W>) -> fmt::Result {
+        let cases = self.cases;
+        let calls = self.calls;
+        let lines = self.lines;
+        write!(f, "{cases} cases, {calls} calls and {lines} lines agree")
+    }
+}
