@@ -3,7 +3,7 @@ ghost use Rattle.rules.specs.Calls.{begun};
 ghost use Rattle.dce.specs.Calls.{lengths_fit, state, state_by};
 ghost use Rattle.dce.specs.Faults.{NotBegun};
 
-use crate::discount::WORK;
+use crate::discount::work_memory;
 use crate::fault::BeginFault;
 use crate::lengths::check_lengths;
 use crate::tree_shaker::TreeShaker;
@@ -28,7 +28,7 @@ impl<J: Judge + Drop> TreeShaker<J> {
         ensures state { MatchResult result (λ s. state tree.now declared.new names.new edges.new s ≡ begun (state_by tree.now declared.old names.old edges.old s.changed)) (λ _. state_by tree.now declared.new names.new edges.new false ≡ state_by tree.now declared.old names.old edges.old false) }
     {
         check_lengths(tree, declared, names, edges, retain)?;
-        let work = vec![in heap; 0; WORK]?;
+        let work = work_memory(heap)?;
         zero_rows::<Declared>(declared);
         zero_rows::<Names>(names);
         zero_rows::<Edges>(edges);

@@ -421,6 +421,32 @@ fn a_var_of_several_acting_values_becomes_a_list_of_them(rt: HostRuntime) -> Res
 }
 
 #[test]
+fn a_var_of_acting_values_stays_for_one_name_that_stays(rt: HostRuntime) -> Result<(), Fail> {
+    expect(
+        &rt,
+        rt.alloc(),
+        Plain { unresolved: 1 },
+        Given::of(
+            TOP,
+            &[],
+            &[
+                2, 0, 0, 0, 2, 0, 16, 0, 0, 0, 3, 11, 20, 0, 0, 0, 4, 7, 37, 0, 4, 2, 0, 5, 34, 0,
+                0, 0, 6, 0, 27, 0, 8, 1, 0, 0, 20, 0, 0, 0, 8, 0, 37, 0, 5, 2, 0, 9, 34, 0, 0, 0,
+                10, 0, 27, 0, 9, 1, 0, 0, 11, 0, 0, 0, 12, 0, 27, 0, 5, 2, 0, 0,
+            ],
+        ),
+        &[Ok(false)],
+        [
+            " 4:2 5:2",
+            " 8:1:1:0:1:1 9:1:1:0:1:1 5:2:1:0:1:1",
+            "",
+            " (1 2 0 0 0 (2 16 0 0 0 (3 20 0 0 0 (4 37 0 4 2) (5 34 0 0 0 (6 27 0 8 1))) (7 20 0 0 0 (8 37 0 5 2) (9 34 0 0 \
+             0 (10 27 0 9 1)))) (11 11 0 0 0 (12 27 0 5 2)))",
+        ],
+    )
+}
+
+#[test]
 fn an_import_goes_with_its_last_specifier(rt: HostRuntime) -> Result<(), Fail> {
     expect(
         &rt,
