@@ -11,4 +11,6 @@ mod lists;
 #[cfg(test)]
 mod refusals;
 #[cfg(test)]
+mod runs;
+#[cfg(test)]
 mod settings;
