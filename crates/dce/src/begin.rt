@@ -24,7 +24,7 @@ impl<J: Judge + Drop> TreeShaker<J> {
         edges: &mut [u32],
         retain: &[u32],
     ) -> Result<TreeShaker<J>, BeginFault>
-        ensures shaker { MatchResult result (λ s. (s.config ≡ config) × (s.judge ≡ judge)) (λ e. NotBegun (lengths_fit tree.now declared.old names.old edges.old retain.now) e) }
+        ensures shaker { MatchResult result (λ s. (lengths_fit tree.now declared.old names.old edges.old retain.now ≡ true) × (s.config ≡ config) × (s.judge ≡ judge)) (λ e. NotBegun (lengths_fit tree.now declared.old names.old edges.old retain.now) e) }
         ensures state { MatchResult result (λ s. state tree.now declared.new names.new edges.new s ≡ begun (state_by tree.now declared.old names.old edges.old s.changed)) (λ _. state_by tree.now declared.new names.new edges.new false ≡ state_by tree.now declared.old names.old edges.old false) }
     {
         check_lengths(tree, declared, names, edges, retain)?;

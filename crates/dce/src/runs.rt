@@ -1,4 +1,4 @@
-ghost use Rattle.std.specs.Prelude.{◌≡◌, false, map, MatchResult};
+ghost use Rattle.std.specs.Prelude.{◌≡◌, true, false, map, IfOk, MatchResult};
 ghost use Rattle.rules.specs.Calls as book;
 ghost use Rattle.rules.specs.Calls.{calls, final};
 ghost use Rattle.rules.specs.Law.{Law, begun_on};
@@ -78,6 +78,7 @@ pub fn run<J: Judge + Drop>(
     retain: &[u32],
     list: &[Call],
 ) -> Result<Ran, BeginFault>
+    ensures begun { IfOk result (λ _. lengths_fit tree.old declared.old names.old edges.old retain.now ≡ true) }
     ensures answers { MatchResult result (λ ran. map answer_of ran.answers.items ≡ map (λ a. a.answer) (calls (config_of config (J.Judge.acts judge) retain.now) (map call_of list.now) (begun_on (handed tree.old declared.old names.old edges.old)))) (λ e. NotBegun (lengths_fit tree.old declared.old names.old edges.old retain.now) e) }
     ensures state { MatchResult result (λ ran. state_by tree.new declared.new names.new edges.new ran.changed ≡ final (config_of config (J.Judge.acts judge) retain.now) (map call_of list.now) (begun_on (handed tree.old declared.old names.old edges.old))) (λ _. state_by tree.new declared.new names.new edges.new false ≡ state_by tree.old declared.old names.old edges.old false) }
     ensures law { Law (config_of config (J.Judge.acts judge) retain.now) (map call_of list.now) (handed tree.old declared.old names.old edges.old) }
