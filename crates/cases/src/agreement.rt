@@ -1,4 +1,6 @@
 // How much of what was stored came out.
+ghost use Rattle.std.specs.Prelude.{◌≡◌, ◌+◌, ◌^◌, ◌<◌};
+
 use crate::transcript::Transcript;
 use std::fmt;
 
@@ -12,7 +14,10 @@ pub struct Agreement {
 
 impl Agreement {
     /// Adds a case that agrees.
-    pub fn add(&mut self, transcript: &Transcript) {
+    pub fn add(&mut self, transcript: &Transcript)
+        ensures cases { self.old.cases + 1 < 2 ^ 64 → self.new.cases ≡ self.old.cases + 1 }
+        ensures calls { self.old.calls + transcript.now.calls < 2 ^ 64 → self.new.calls ≡ self.old.calls + transcript.now.calls }
+    {
         self.cases = self.cases.saturating_add(1);
         self.calls = self.calls.saturating_add(transcript.calls);
         self.lines = self.lines.saturating_add(transcript.text.lines().count());

@@ -1,4 +1,6 @@
 // What the calls of a case told, in the form in which answers are stored.
+ghost use Rattle.std.specs.Prelude.{◌≡◌, vec_len, IfOk};
+
 use crate::replay::Replay;
 use judge::{Cautious, Judge, Plain};
 use std::alloc::Global;
@@ -13,7 +15,9 @@ pub struct Transcript {
 
 impl Transcript {
     /// Replays a case with its judge.
-    pub fn of(heap: Global, case: &Case) -> anyhow::Result<Transcript> {
+    pub fn of(heap: Global, case: &Case) -> anyhow::Result<Transcript>
+        ensures { IfOk result (λ t. t.calls ≡ vec_len case.now.calls) }
+    {
         match case.settings.judge {
             text::Judge::Plain { unresolved } => judged(heap, case, Plain { unresolved }),
             text::Judge::Cautious => judged(heap, case, Cautious),
@@ -22,7 +26,9 @@ impl Transcript {
 }
 
 /// Replays a case, and tells each call.
-fn judged<J: Judge + Copy>(heap: Global, case: &Case, judge: J) -> anyhow::Result<Transcript> {
+fn judged<J: Judge + Copy>(heap: Global, case: &Case, judge: J) -> anyhow::Result<Transcript>
+    ensures { IfOk result (λ t. t.calls ≡ vec_len case.now.calls) }
+{
     let name = case.name.as_str();
     let mut text = format!(in heap; "case {name}\n")?;
     let mut replay = Replay::new(heap, case, judge)?;
