@@ -1,13 +1,23 @@
-// Reads cases from standard input and prints what the check finds of each tree: its records and the names that it
-// declares, or why it is refused.
+// Reads cases from standard input, shakes the tree of each by a repeat, and prints what went in which pass and by which
+// rule, the outline of what is left, and what is left that names what went; or why the tree is refused.
 #![tactic(auto)]
+
+mod change;
+mod compare;
+mod handed;
+mod history;
+mod kinds;
+mod passes;
+mod refused;
+mod report;
+mod shaken;
 
 ghost use Rattle.std.specs.Prelude.{◌≡◌, IfOk, Ok};
 
-use outline::CheckedTree;
-use std::io;
+use judge::{Cautious, Plain};
+use report::report;
 use std::io::Read;
-use text::{Case, Cases, TextFault};
+use text::{Case, Cases, Judge, TextFault};
 
 fn main(rt: HostRuntime) -> anyhow::Result<()> {
     let mut text = Vec::new(rt.alloc());
@@ -15,11 +25,11 @@ fn main(rt: HostRuntime) -> anyhow::Result<()> {
     shake(&rt, text.as_slice())
 }
 
-// Prints each case of the text; bad text is reported with its line, and ends the program.
+// Shakes each case of the text; bad text is reported with its line, and ends the program.
 fn shake(rt: &HostRuntime, text: &[u8]) -> anyhow::Result<()> {
     let mut cases = Cases::new(text);
     while let Some(case) = reported(rt, cases.next_case(rt.alloc()))? {
-        print_case(rt, case)?;
+        shake_case(rt, &case)?;
     }
     Ok(())
 }
@@ -34,33 +44,10 @@ fn reported(rt: &HostRuntime, read: Result<Option<Case>, TextFault>) -> anyhow::
     Ok(read?)
 }
 
-// Prints what the check finds of a case's tree.
-fn print_case(rt: &HostRuntime, case: Case) -> io::Result<()> {
-    let Case {
-        name,
-        settings: _,
-        retain: _,
-        tables: _,
-        tree,
-        calls: _,
-    } = case;
-    println!(rt; "case {name}")?;
-    match CheckedTree::new(tree) {
-        Ok(tree) => print_tree(rt, &tree),
-        Err(fault) => rt.println(fault),
+// Shakes a case's tree with its judge.
+fn shake_case(rt: &HostRuntime, case: &Case) -> anyhow::Result<()> {
+    match case.settings.judge {
+        Judge::Plain { unresolved } => report(rt, case, Plain { unresolved }),
+        Judge::Cautious => report(rt, case, Cautious),
     }
-}
-
-// Prints a tree's outline, how many records it reaches, and the names that it declares.
-fn print_tree(rt: &HostRuntime, tree: &CheckedTree) -> io::Result<()> {
-    for line in tree.lines(rt.alloc())? {
-        rt.println(line)?;
-    }
-    let reached = tree.reached();
-    let unreached = tree.unreached();
-    println!(rt; "{reached} records reached, {unreached} unreached")?;
-    for named in tree.declared(rt.alloc())? {
-        rt.println(named)?;
-    }
-    Ok(())
 }
