@@ -4,7 +4,7 @@ ghost use Rattle.records.specs.Chains.{as_chain};
 ghost use Rattle.records.specs.Reads.{head_of};
 ghost use Rattle.records.specs.KindWords.{kind_word};
 ghost use Rattle.shaker.specs.Places.{place_of, var_decl_kind_of};
-ghost use Rattle.shaker.specs.Treating.{listed, passed_by, entered_by, entered_first, place_below};
+ghost use Rattle.shaker.specs.Treating.{listed, listed_first, passed_by, entered_by, entered_first, place_below};
 
 use records::{Children, Kind, Record};
 
@@ -114,8 +114,15 @@ impl Place {
     }
 }
 
+/// Whether the children of the chain's first record are a list of statements or items.
+pub fn first_has_list(chain: Children<'_>) -> bool
+    ensures { result ≡ listed_first (as_chain chain.entry) }
+{
+    chain.first().is_some_and(|node| has_list(node.record.kind))
+}
+
 /// Whether the children of such a record are a list of statements or items.
-pub fn has_list(kind: Kind) -> bool
+fn has_list(kind: Kind) -> bool
     ensures { result ≡ listed (kind_word kind) }
 {
     matches!(kind, Kind::Module | Kind::Script | Kind::Block)

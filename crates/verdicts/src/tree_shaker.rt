@@ -12,7 +12,7 @@ use crate::wraps::call_unwraps;
 use judge::Judge;
 use records::{Children, Kind, Node};
 use shaker::perform::Verdict;
-use shaker::place::{Place, VarDeclKind, has_list};
+use shaker::place::{Place, VarDeclKind};
 
 /// What a removal goes by: the judge, and the settings, lists and tables.
 #[derive(Drop)]
@@ -98,8 +98,6 @@ impl<'t, J: Judge> TreeShaker<'t, J> {
             Verdict::Yields
         } else if call_unwraps(node) {
             Verdict::Unwraps
-        } else if has_list(node.record.kind) {
-            Verdict::Sweeps
         } else {
             Verdict::Stays
         }
