@@ -7,4 +7,4 @@ pub mod slots;
 
 pub use kinds::{empty, join, restate};
 pub use lifting::lift;
-pub use lists::{gather, sweep, sweep_children};
+pub use lists::{gather, sweep};

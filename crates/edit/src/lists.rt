@@ -1,10 +1,9 @@
 ghost use Rattle.rules.specs.Tree.{Chain};
-ghost use Rattle.rules.specs.Tree.Chain.{link};
 ghost use Rattle.rules.specs.Removal.{swept, values};
-ghost use Rattle.edit.specs.Slots.{LinksChain, LinksRecord, Turns, TurnsRecord, Leaves, Thins};
+ghost use Rattle.edit.specs.Slots.{LinksChain, Turns, Leaves, Thins};
 
 use crate::lifting::lift;
-use crate::slots::{first_of, first_slot, is_nothing, next_of, next_slot};
+use crate::slots::{first_of, is_nothing, next_of, next_slot};
 
 // Words and a slot are two parameters and no struct: the words are the caller's, and what a slot links to is known of them only until a write.
 
@@ -14,15 +13,6 @@ pub fn sweep(words: &mut [u32], slot: usize)
     ensures { Turns swept words.old words.new slot }
 {
     thin(words, slot, without_nothing);
-}
-
-/// Unlinks each Empty and each childless Block of the children of the record that the slot links to.
-pub fn sweep_children(words: &mut [u32], slot: usize)
-    requires { LinksRecord words.old slot }
-    ensures { TurnsRecord (λ h children rest. link h (swept children) rest) words.old words.new slot }
-{
-    let n = words[slot];
-    sweep(words, first_slot(n));
 }
 
 /// Puts its value in the place of each Declarator of the chain that the slot links to; one without a value is unlinked.

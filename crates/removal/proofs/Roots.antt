@@ -1,20 +1,20 @@
--- The root has no slot of its own: its children are treated and swept, which is what the rules do with a root. What then hangs at the
--- root is what the book leaves.
+-- The root has no slot of its own: its children are a list, treated and swept, which is what the rules do with a root. What then hangs
+-- at the root is what the book leaves.
 --
---   root_sweeps                        the verdict on a root
+--   root_list                          a root has a list
 --   under_root                         the chain of its children
 --   entered_root, passed_root          what is left of a root that the rules enter, and of one that they do not
 use Rattle.std.proofs.Common.{◌≡◌, ℕ, Bool, true, false, ◌||◌, eqb, List, [], get_or, sym, refl, ap, ◌∙◌, subst, inl, inr, ⊎_elim, arith}
-use Rattle.std.proofs.Math.Bool.{or-false}
-use Rattle.std.proofs.lemmas.Bool.{both_ways, or_cases, eqb-true}
+use Rattle.std.proofs.Math.Bool.{or-false, or-true}
+use Rattle.std.proofs.lemmas.Bool.{both_ways, or_cases}
 use Rattle.rules.specs.Tree.{Head, Chain, below, append}
 use Rattle.rules.specs.Tree.Chain.{end, link}
-use Rattle.rules.specs.Kinds.{module_root, script_root}
+use Rattle.rules.specs.Kinds.{module_root, script_root, block}
 use Rattle.rules.specs.Refusals.Outcome.{fine}
 use Rattle.rules.specs.Words.{word, Holds, tree_of, Whole}
 use Rattle.rules.specs.Check.{check, most_nesting}
 use Rattle.rules.specs.Held.{Numbers, Tree}
-use Rattle.rules.specs.Removal.{By, Place, Left, at_root, entered, place_inside, swept, verdict, done, treated, treat}
+use Rattle.rules.specs.Removal.{By, Place, Left, has_list, at_root, entered, place_inside, swept, verdict, done, treated, treat}
 use Rattle.rules.specs.Removal as book
 use Rattle.rules.specs.Removal.Verdict.{sweeps}
 use Rattle.rules.proofs.Sounds.{check_sound}
@@ -23,9 +23,8 @@ use Rattle.laws.proofs.Formed.{formed_one}
 use Rattle.laws.proofs.KeepsChecked.{checked_again}
 use Rattle.edit.specs.Slots.{owner, first_slot, Linked, Made}
 use Rattle.edit.proofs.Frames.{number_is, number_within, stands_same, head_same}
-use Rattle.edit.proofs.Moves.{then}
 use Rattle.shaker.specs.Treating.{entered_first, place_below, Nested}
-use Rattle.removal.proofs.Treats.{treats}
+use Rattle.removal.proofs.Treats.{list_sweeps, treats}
 
 -- a root's kind
 abbrev a_root : ℕ → Bool
@@ -34,17 +33,11 @@ a_root k = eqb k module_root || eqb k script_root
 pub whole_root : (w : List ℕ) → check w ≡ fine (tree_of w 1) → Whole w 1
 whole_root w e = (tree_is_read w (tree_of w 1) e).1
 
-module _ (by : By) (p : Place) (h : Head) (found ch : Chain) where
-  -- the verdict on a record of another kind
-  as_kind : ℕ → book.Verdict
-  as_kind k = verdict by p (record { number = h.number; kind = k; flags = h.flags; symbol = h.symbol; mark = h.mark }) found ch
-
-  pub root_sweeps : a_root h.kind ≡ true → verdict by p h found ch ≡ sweeps
-  unfolding as_kind
-  root_sweeps is = ⊎_elim
-      (λ (e : eqb h.kind module_root ≡ true). ap as_kind (eqb-true h.kind module_root e))
-      (λ (e : eqb h.kind script_root ≡ true). ap as_kind (eqb-true h.kind script_root e))
-      (or_cases (eqb h.kind module_root) (eqb h.kind script_root) is)
+root_list : (h : Head) → a_root h.kind ≡ true → has_list h ≡ true
+root_list h is = ⊎_elim
+    (λ (e : eqb h.kind module_root ≡ true). ap (λ (b : Bool). b || (eqb h.kind script_root || eqb h.kind block)) e)
+    (λ (e : eqb h.kind script_root ≡ true). ap (λ (b : Bool). eqb h.kind module_root || (b || eqb h.kind block)) e ∙ or-true (eqb h.kind module_root))
+    (or_cases (eqb h.kind module_root) (eqb h.kind script_root) is)
 
 module _ (w : List ℕ) (h : Head) (ch : Chain) (t : Tree w (link h ch end)) where
   root_number : h.number ≡ 1
@@ -95,29 +88,28 @@ module _ (w : List ℕ) where
 
   module _ (by : By) (q : Place) (is_root : q ≡ at_root) where
     -- a root that the rules enter
-    pub entered_root : (c k : Chain) → k ≡ c → (v1 v2 : List ℕ) (s : ℕ) (z : Place) (a : Bool) → s ≡ first_slot 1 → check w ≡ fine c →
-        true ≡ entered_first q k → z ≡ place_below q k → Made w v1 s (below c) (treats by z (below c)) → a ≡ (treat by z (below c)).changed →
-        Made v1 v2 s (treats by z (below c)) (swept (treats by z (below c))) → LeftAtRoot by w v2 c a
-    entered_root end k is v1 v2 s z a es e en ez m ea sw = absurd (both_ways false refl (check_sound w end e).formed)
-    entered_root (link h ch (link g under rest)) k is v1 v2 s z a es e en ez m ea sw =
+    pub entered_root : (c k : Chain) → k ≡ c → (v : List ℕ) (s : ℕ) (z : Place) (a : Bool) → s ≡ first_slot 1 → check w ≡ fine c →
+        true ≡ entered_first q k → z ≡ place_below q k → Made w v s (below c) (swept (treats by z (below c))) → a ≡ (treat by z (below c)).changed →
+        LeftAtRoot by w v c a
+    entered_root end k is v s z a es e en ez m ea = absurd (both_ways false refl (check_sound w end e).formed)
+    entered_root (link h ch (link g under rest)) k is v s z a es e en ez m ea =
         absurd (both_ways true (formed_one a_root [] (link h ch (link g under rest)) (check_sound w (link h ch (link g under rest)) e).formed).1.1 refl)
-    entered_root (link h ch end) k is v1 v2 s z a es e en ez m ea sw =
+    entered_root (link h ch end) k is v s z a es e en ez m ea =
         let t = check_sound w (link h ch end) e in
         let inner : Left = treat by (place_inside at_root h) ch in
         let is_z : z ≡ place_inside at_root h = ez ∙ ap (place_below q) is ∙ ap (λ (x : Place). place_inside x h) is_root in
         let yes : entered at_root h ch true ≡ true = sym (en ∙ ap (entered_first q) is ∙ ap (λ (x : Place). entered x h ch true) is_root) in
         let sweep : verdict by at_root h ch inner.chain ≡ sweeps
-        = root_sweeps by at_root h ch inner.chain (formed_one a_root [] (link h ch end) t.formed).0 in
+        = list_sweeps by at_root h ch inner.chain (root_list h (formed_one a_root [] (link h ch end) t.formed).0) in
         let here : treated (entered at_root h ch true) by at_root h ch inner ≡ done sweeps h inner
-        = ap (λ (b : Bool). treated b by at_root h ch inner) yes ∙ ap (λ (v : book.Verdict). done v h inner) sweep in
-        let made : Made w v2 (first_slot 1) ch (swept inner.chain)
-        = subst (λ (j : ℕ). Made w v2 j ch (swept inner.chain)) es
-        (subst (λ (x : Place). Made w v2 s ch (swept (treats by x ch))) is_z (then w v1 v2 s ch (treats by z ch) (swept (treats by z ch)) m sw)) in
+        = ap (λ (b : Bool). treated b by at_root h ch inner) yes ∙ ap (λ (u : book.Verdict). done u h inner) sweep in
+        let made : Made w v (first_slot 1) ch (swept inner.chain)
+        = subst (λ (j : ℕ). Made w v j ch (swept inner.chain)) es (subst (λ (x : Place). Made w v s ch (swept (treats by x ch))) is_z m) in
         record {
-          tree = checked_again by w v2 (link h ch end) e made.long
-              (subst (λ (x : Left). Holds v2 1 (append x.chain end)) (sym here) (root_made w h ch t v2 (swept inner.chain) made));
+          tree = checked_again by w v (link h ch end) e made.long
+              (subst (λ (x : Left). Holds v 1 (append x.chain end)) (sym here) (root_made w h ch t v (swept inner.chain) made));
           flag = ea ∙ ap (λ (x : Place). (treat by x ch).changed) is_z ∙ sym (or-false inner.changed) ∙ ap (λ (x : Left). x.changed || false) (sym here);
-          others = root_others w h ch t v2 (swept inner.chain) made;
+          others = root_others w h ch t v (swept inner.chain) made;
         }
 
     -- a root that they do not enter

@@ -1,30 +1,34 @@
 -- A turn of `treat` and its loop. A record is treated in two steps: first its children, which leaves it halfway, then the record itself.
+-- A record with a list is treated in one: its children are treated and swept.
 --
 --   asked_at                     the chain at a slot may be read
---   done_left, done_changed      what the book leaves of a record is what the verdict leaves
---   here_onto                    that stands before what it leaves of the rest
+--   list_sweeps                  the verdict on a record with a list
+--   done_left, done_changed      what the book leaves of a record without a list is what the verdict leaves
+--   here_onto                    what is left of a record stands before what is left of the rest
 --   down                         the children
 --   half_asked, half_record      the record with its children treated
---   passed, moved                a record that the rules do not enter; one that they do
+--   passed, listed, moved        a record that the rules do not enter; one with a list; another
 --   Ongoing, Walking             the loop, of a chain, and of each that the first slot may link to
 --   some_record, turned          a turn
 --   closed                       the end
 use Rattle.std.proofs.Common.{◌≡◌, ℕ, ◌-◌, ◌<◌, ◌≤◌, Bool, true, false, not, ◌||◌, List, length, get_or, sym, refl, ap, ◌∙◌, subst, arith}
 use Rattle.std.proofs.Math.Bool.{or_assoc, or-false, or-true}
-use Rattle.rules.specs.Tree.{Head, Chain, is_end, below, alone, append}
+use Rattle.std.proofs.lemmas.Bool.{both_ways}
+use Rattle.rules.specs.Tree.{Head, Chain, is_end, below, after, alone, append}
 use Rattle.rules.specs.Tree.Chain.{end, link}
 use Rattle.rules.specs.Words.{tree_of, Whole}
 use Rattle.rules.specs.Opening.{depth}
-use Rattle.rules.specs.Removal.{By, Place, Left, entered, place_inside, verdict, done, treated, treat}
+use Rattle.rules.specs.Removal.{By, Place, Left, has_list, entered, place_inside, swept, wrapped_object, verdict, done, treated, treat}
 use Rattle.rules.specs.Removal as book
 use Rattle.rules.specs.Removal.Verdict.{stays, sweeps, empties, unlinks, restates, yields, unwraps}
 use Rattle.rules.proofs.Reading.{read_back}
+use Rattle.laws.proofs.Verdicts.{Means, means, by_list}
 use Rattle.edit.specs.Slots.{first_slot, next_slot, slot_after, Linked, Made, onto, Step}
 use Rattle.edit.proofs.Moves.{Going, to_go, turn, again, then, same, number_at, positive_at, child_by, beneath_by, ended}
 use Rattle.records.specs.Chains.{as_chain}
 use Rattle.records.specs.declared.children.Children.{Children}
 use Rattle.shaker.specs.Verdicts.{verdict_of, left_of, removes}
-use Rattle.shaker.specs.Treating.{entered_first, place_below, choice, Nested}
+use Rattle.shaker.specs.Treating.{listed_first, entered_first, place_below, choice, Nested}
 use Rattle.shaker.specs.declared.perform.Verdict.{Verdict}
 use Rattle.shaker.proofs.Deeps.{treat_deep}
 use Rattle.removal.specs.Turns.{here, Treats}
@@ -46,14 +50,19 @@ chain_at w i d c k ew en nested = (λ j. tree_of (ew j) (en j)) ∙ read_at w i 
 abbrev pub treats : By → Place → Chain → Chain
 treats by p c = (treat by p c).chain
 
-done_left : (v : book.Verdict) (h : Head) (inner : Left) → (done v h inner).chain ≡ alone (left_of (verdict_of v) h inner.chain)
-done_left stays h inner = refl
-done_left sweeps h inner = refl
-done_left (empties names) h inner = refl
-done_left (unlinks name) h inner = refl
-done_left restates h inner = refl
-done_left (yields name) h inner = refl
-done_left unwraps h inner = refl
+module _ (by : By) (p : Place) (h : Head) (found : Chain) where
+  pub list_sweeps : (children : Chain) → has_list h ≡ true → verdict by p h found children ≡ sweeps
+  list_sweeps children is = by_list (λ (g : Head). verdict by p g found children ≡ sweeps) h is refl refl refl
+
+  done_left : (v : book.Verdict) (inner : Left) → has_list h ≡ false → Means by p h found inner.chain v →
+      (done v h inner).chain ≡ alone (left_of (verdict_of v) h inner.chain)
+  done_left stays inner none told = refl
+  done_left sweeps inner none told = absurd (both_ways (has_list h) none told)
+  done_left (empties names) inner none told = refl
+  done_left (unlinks name) inner none told = refl
+  done_left restates inner none told = refl
+  done_left (yields name) inner none told = refl
+  done_left unwraps inner none told = refl
 
 done_changed : (v : book.Verdict) (h : Head) (inner : Left) → (done v h inner).changed ≡ (inner.changed || removes (verdict_of v))
 done_changed stays h inner = sym (or-false inner.changed)
@@ -68,15 +77,22 @@ alone_twice : (c : Chain) → alone (alone c) ≡ alone c
 alone_twice end = refl
 alone_twice (link h ch rest) = refl
 
+done_alone : (v : book.Verdict) (h : Head) (inner : Left) → alone (done v h inner).chain ≡ (done v h inner).chain
+done_alone stays h inner = refl
+done_alone sweeps h inner = refl
+done_alone (empties names) h inner = refl
+done_alone (unlinks name) h inner = refl
+done_alone restates h inner = refl
+done_alone (yields name) h inner = alone_twice (after inner.chain)
+done_alone unwraps h inner = alone_twice (wrapped_object inner.chain)
+
 slot_alone : (i : ℕ) (c : Chain) → slot_after i (alone c) ≡ slot_after i c
 slot_alone i end = refl
 slot_alone i (link h ch rest) = refl
 
 module _ (by : By) (p : Place) (h : Head) (ch rest : Chain) where
   alone_treated : (b : Bool) (inner : Left) → alone (treated b by p h ch inner).chain ≡ (treated b by p h ch inner).chain
-  alone_treated true inner =
-      let e = done_left (verdict by p h ch inner.chain) h inner in
-      ap alone e ∙ alone_twice (left_of (verdict_of (verdict by p h ch inner.chain)) h inner.chain) ∙ sym e
+  alone_treated true inner = done_alone (verdict by p h ch inner.chain) h inner
   alone_treated false inner = refl
 
   -- so the book puts what it leaves of the record onto what it leaves of the rest
@@ -106,6 +122,29 @@ module _ (by : By) (p : Place) (h : Head) (ch rest : Chain) where
           = record { made = same w i (link h ch rest) nested.at; next = er ∙ ap next_slot (sym (number_at w i h ch rest nested.at)) } in
           record { step = subst (λ (x : Left). Step w w i (link h ch rest) x.chain r) (sym e) step; flag = ap (λ (x : Left). x.changed) (sym e) }
 
+      -- a record with a list, which is entered
+      pub listed : (w2 : List ℕ) (s : ℕ) (z : Place) (b : Bool) (r : ℕ) → s ≡ first_slot (get_or w i 0) → z ≡ place_below p (as_chain k) → r ≡ next_slot (get_or w i 0) →
+          true ≡ entered_first p (as_chain k) → true ≡ listed_first (as_chain k) →
+          ((c : Chain) → Nested w s (d - 1) c → Made w w2 s c (swept (treats by z c))) → ((c : Chain) → Nested w s (d - 1) c → b ≡ (treat by z c).changed) →
+          Treats by p w w2 i h ch rest r b
+      listed w2 s z b r es ez er into has made changed =
+          let inner : Left = treat by (place_inside p h) ch in
+          let inside : z ≡ place_inside p h = ez ∙ ap (place_below p) is in
+          let e : here by p h ch rest ≡ done sweeps h inner
+          = ap (λ (b : Bool). treated b by p h ch inner) (sym (into ∙ ap (entered_first p) is))
+          ∙ ap (λ (v : book.Verdict). done v h inner) (list_sweeps by p h ch inner.chain (sym (has ∙ ap listed_first is))) in
+          let below : Made w w2 s ch (swept inner.chain)
+          = subst (λ (q : Place). Made w w2 s ch (swept (treats by q ch))) inside (made ch (down s es)) in
+          let step : Step w w2 i (link h ch rest) (link h (swept inner.chain) end) r
+          = record {
+            made = beneath_by w w2 i s h ch rest (swept inner.chain) es nested.at below;
+            next = er ∙ ap next_slot (sym (number_at w i h ch rest nested.at));
+          } in
+          record {
+            step = subst (λ (x : Left). Step w w2 i (link h ch rest) x.chain r) (sym e) step;
+            flag = changed ch (down s es) ∙ ap (λ (q : Place). (treat by q ch).changed) inside ∙ ap (λ (x : Left). x.changed) (sym e);
+          }
+
       module _ (w1 : List ℕ) (s : ℕ) (es : s ≡ first_slot (get_or w i 0)) (z : Place) (ez : z ≡ place_below p (as_chain k)) (made : (c : Chain) → Nested w s (d - 1) c → Made w w1 s c (treats by z c)) where
         inside : z ≡ place_inside p h
         inside = ez ∙ ap (place_below p) is
@@ -132,13 +171,13 @@ module _ (by : By) (p : Place) (h : Head) (ch rest : Chain) where
         pub half_record : (h : Head) × (ch : Chain) × (rest : Chain) × Linked w1 i (link h ch rest)
         half_record = (h, treats by (place_inside p h) ch, rest, half.at)
 
-        -- a record that is entered
+        -- a record without a list, which is entered
         pub moved : (w2 : List ℕ) (a b had : Bool) (what : Verdict) (r : ℕ) (k1 : Children) → k1.words.now ≡ w1 → k1.at ≡ get_or w i 0 →
-            true ≡ entered_first p (as_chain k) → ((c : Chain) → Nested w s (d - 1) c → a ≡ (treat by z c).changed) → had ≡ not (is_end (below (as_chain k))) →
+            true ≡ entered_first p (as_chain k) → false ≡ listed_first (as_chain k) → ((c : Chain) → Nested w s (d - 1) c → a ≡ (treat by z c).changed) → had ≡ not (is_end (below (as_chain k))) →
             ((found : Chain) → had ≡ not (is_end found) → what ≡ choice by p found (as_chain k1)) →
             ((h : Head) (ch rest : Chain) → Linked w1 i (link h ch rest) → Step w1 w2 i (link h ch rest) (left_of what h ch) r) →
             b ≡ (a || removes what) → Treats by p w w2 i h ch rest r b
-        moved w2 a b had what r k1 ew en into changed eh asked does eb =
+        moved w2 a b had what r k1 ew en into none changed eh asked does eb =
             let inner : Left = treat by (place_inside p h) ch in
             let v : book.Verdict = verdict by p h ch inner.chain in
             let e : here by p h ch rest ≡ done v h inner
@@ -148,7 +187,7 @@ module _ (by : By) (p : Place) (h : Head) (ch rest : Chain) where
             let ea : a ≡ inner.changed = changed ch (down s es) ∙ ap (λ (q : Place). (treat by q ch).changed) inside in
             let st : Step w1 w2 i halfway (left_of what h inner.chain) r = does h inner.chain rest half.at in
             let left : (here by p h ch rest).chain ≡ alone (left_of what h inner.chain)
-            = ap (λ (x : Left). x.chain) e ∙ done_left v h inner ∙ ap (λ (y : Verdict). alone (left_of y h inner.chain)) (sym ew) in
+            = ap (λ (x : Left). x.chain) e ∙ done_left by p h ch v inner (sym (none ∙ ap listed_first is)) (means by p h ch inner.chain) ∙ ap (λ (y : Verdict). alone (left_of y h inner.chain)) (sym ew) in
             let step : Step w w2 i (link h ch rest) (alone (left_of what h inner.chain)) r
             = record {
               made = subst (λ (c : Chain). Made w w2 i (link h ch rest) (append c rest)) (sym (alone_twice (left_of what h inner.chain)))

@@ -11,9 +11,8 @@ ghost use Rattle.tables.specs.Matching.{NamesHeld};
 ghost use Rattle.verdicts.specs.Grounds.{config_of};
 ghost use Rattle.verdicts.specs.Shaking.{by_shaker};
 
-use crate::treat::treat;
+use crate::treat::visit_mut_stmt_likes;
 use edit::slots::first_slot;
-use edit::sweep;
 use judge::Judge;
 use records::{Children, MOST_NESTING, ROOT};
 use shaker::Place;
@@ -33,8 +32,5 @@ pub fn remove<J: Judge>(shaker: &TreeShaker<'_, J>, words: &mut [u32]) -> bool
         return false;
     }
     let inside = place.below(root);
-    let slot = first_slot(ROOT);
-    let changed = treat(shaker, inside, words, slot, MOST_NESTING);
-    sweep(words, slot);
-    changed
+    visit_mut_stmt_likes(shaker, inside, words, first_slot(ROOT), MOST_NESTING)
 }

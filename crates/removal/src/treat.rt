@@ -1,6 +1,7 @@
 ghost use Rattle.std.specs.Prelude.{◌≡◌};
 ghost use Rattle.rules.specs.Tree.{Head, Chain};
 ghost use Rattle.rules.specs.Tree.Chain.{link};
+ghost use Rattle.rules.specs.Removal.{swept};
 ghost use Rattle.rules.specs.Removal as book;
 ghost use Rattle.edit.specs.Slots.{Made};
 ghost use Rattle.shaker.specs.Places.{place_of};
@@ -8,8 +9,10 @@ ghost use Rattle.shaker.specs.Treating.{Nested};
 ghost use Rattle.removal.specs.Turns.{Treats};
 
 use edit::slots::{first_slot, next_slot};
+use edit::sweep;
 use records::Children;
 use shaker::perform::perform;
+use shaker::place::first_has_list;
 use shaker::{Basis, Place};
 
 /// What a turn along a chain came to: the slot that follows, and whether something was removed.
@@ -23,7 +26,7 @@ struct Turn {
 
 /// Treats the chain that the slot links to, each record after its children, and says whether something was removed.
 #[cycle(treating)]
-pub fn treat<B: Basis>(basis: &B, place: Place, words: &mut [u32], slot: usize, left: usize) -> bool
+fn treat<B: Basis>(basis: &B, place: Place, words: &mut [u32], slot: usize, left: usize) -> bool
     requires { (c : Chain) × Nested words.old slot left c }
     ensures made { (c : Chain) → Nested words.old slot left c → Made words.old words.new slot c (book.treat (B.Basis.by basis.now) (place_of place) c).chain }
     ensures changed { (c : Chain) → Nested words.old slot left c → result ≡ (book.treat (B.Basis.by basis.now) (place_of place) c).changed }
@@ -36,6 +39,24 @@ pub fn treat<B: Basis>(basis: &B, place: Place, words: &mut [u32], slot: usize, 
         at = turn.next;
         changed |= turn.changed;
     }
+    changed
+}
+
+/// Treats the statements or items of a list, then unlinks each Empty and each childless Block, and says whether the treating removed something.
+#[cycle(treating)]
+pub fn visit_mut_stmt_likes<B: Basis>(
+    basis: &B,
+    place: Place,
+    words: &mut [u32],
+    slot: usize,
+    left: usize,
+) -> bool
+    requires { (c : Chain) × Nested words.old slot left c }
+    ensures made { (c : Chain) → Nested words.old slot left c → Made words.old words.new slot c (swept (book.treat (B.Basis.by basis.now) (place_of place) c).chain) }
+    ensures changed { (c : Chain) → Nested words.old slot left c → result ≡ (book.treat (B.Basis.by basis.now) (place_of place) c).changed }
+{
+    let changed = treat(basis, place, words, slot, left);
+    sweep(words, slot);
     changed
 }
 
@@ -59,9 +80,16 @@ fn treat_record<B: Basis>(
             changed: false,
         };
     }
-    let had = !found.below().is_end();
     let inside = place.below(found);
-    let below = treat(basis, inside, words, first_slot(n), left - 1);
+    let children = first_slot(n);
+    if first_has_list(found) {
+        return Turn {
+            next: next_slot(n),
+            changed: visit_mut_stmt_likes(basis, inside, words, children, left - 1),
+        };
+    }
+    let had = !found.below().is_end();
+    let below = treat(basis, inside, words, children, left - 1);
     let verdict = basis.verdict(place, had, Children::within(words, n, left));
     let changed = below || verdict.removes();
     Turn {

@@ -1,6 +1,7 @@
 -- What is asked of a record and of a chain before it is treated. The contracts of the tests and of the trait `Basis` cite it.
 --
---   listed, passed_by              the kinds with a list; the rules pass by a record for where it stands
+--   listed, listed_first           the kinds with a list; such is the first record of a chain
+--   passed_by                      the rules pass by a record for where it stands
 --   entered_by, entered_first      the rules enter a record; the first of a chain
 --   place_below                    the place of the first record's children
 --   choice                         what the rules do with the first record of a chain
@@ -19,6 +20,11 @@ use Rattle.shaker.specs.declared.perform.Verdict.TheVariants.{Stays}
 -- the children of such a record are a list of statements or items
 abbrev pub listed : ℕ → Bool
 listed kind = kind == module_root || (kind == script_root || kind == block)
+
+-- the first record of a chain is one with a list
+abbrev pub listed_first : Chain → Bool
+listed_first end = false
+listed_first (link h children rest) = listed h.kind
 
 -- the rules pass by a record of such a kind: a With's statement, a Var at the head of a For, a pattern of an exported Var, a list that begins with 'use asm'
 abbrev pub passed_by : Place → (kind : ℕ) → (asm last : Bool) → Bool

@@ -6,4 +6,4 @@ pub mod place;
 
 pub use basis::Basis;
 pub use perform::Verdict;
-pub use place::Place;
+pub use place::{Place, VarDeclKind};

@@ -7,13 +7,12 @@ ghost use Rattle.edit.specs.Slots.{Linked, LinksRecord, Step};
 ghost use Rattle.shaker.specs.Verdicts.{left_of, removes};
 
 use edit::slots::{first_of, next_of, next_slot};
-use edit::{empty, lift, restate, sweep_children};
+use edit::{empty, lift, restate};
 
-/// What a rule does with a record.
+/// What a rule does with a record. That a list is swept is no verdict: no rule takes a record with a list.
 #[derive(Clone, Copy, PartialEq, Eq, Debug)]
 pub enum Verdict {
     Stays,
-    Sweeps,
     Empties,
     Unlinks,
     Restates,
@@ -26,7 +25,7 @@ impl Verdict {
     pub fn removes(self) -> bool
         ensures { result ≡ removes self }
     {
-        !matches!(self, Verdict::Stays | Verdict::Sweeps)
+        !matches!(self, Verdict::Stays)
     }
 }
 
@@ -39,10 +38,6 @@ pub fn perform(words: &mut [u32], slot: usize, verdict: Verdict) -> usize
     let n = words[slot];
     match verdict {
         Verdict::Stays => next_slot(n),
-        Verdict::Sweeps => {
-            sweep_children(words, slot);
-            next_slot(n)
-        }
         Verdict::Empties => {
             empty(words, slot);
             next_slot(n)

@@ -3,20 +3,42 @@ ghost use Rattle.rules.specs.Removal.{at_root, place_inside, asm};
 ghost use Rattle.records.specs.Chains.{as_chain};
 ghost use Rattle.records.specs.Reads.{head_of};
 ghost use Rattle.records.specs.KindWords.{kind_word};
-ghost use Rattle.shaker.specs.Places.{place_of};
-ghost use Rattle.shaker.specs.Treating.{listed, passed_by, entered_by, entered_first, place_below};
+ghost use Rattle.shaker.specs.Places.{place_of, var_decl_kind_of};
+ghost use Rattle.shaker.specs.Treating.{listed, listed_first, passed_by, entered_by, entered_first, place_below};
 
 use records::{Children, Kind, Record};
 
 /// The symbol of the text 'use asm'.
 const ASM: u32 = 3;
 
-/// Where a record stands: below a Function, below a Block, in a `var`, in an Export declaration; and its parent's kind.
+/// How a Var declares its names: by `var`, or by `let` or `const`, which the rules do not tell apart.
+#[derive(Clone, Copy, PartialEq, Eq, Debug)]
+pub enum VarDeclKind {
+    Var,
+    Lexical,
+}
+
+impl VarDeclKind {
+    /// The kind of a Var; other records have none.
+    fn of(node: Record) -> Option<VarDeclKind>
+        ensures { result ≡ var_decl_kind_of (head_of 0 node) }
+    {
+        if node.kind != Kind::VarDeclaration {
+            None
+        } else if node.is_flagged() {
+            Some(VarDeclKind::Var)
+        } else {
+            Some(VarDeclKind::Lexical)
+        }
+    }
+}
+
+/// Where a record stands: below a Function, below a Block, in a Var of some kind, in an Export declaration; and its parent's kind.
 #[derive(Clone, Copy, PartialEq, Eq, Debug)]
 pub struct Place {
     pub in_fn: bool,
     pub in_block_stmt: bool,
-    pub in_var: bool,
+    pub var_decl_kind: Option<VarDeclKind>,
     pub in_export: bool,
     pub parent: Option<Kind>,
 }
@@ -29,7 +51,7 @@ impl Place {
         Place {
             in_fn: false,
             in_block_stmt: false,
-            in_var: false,
+            var_decl_kind: None,
             in_export: false,
             parent: None,
         }
@@ -37,13 +59,14 @@ impl Place {
 
     /// The place of a record's children.
     pub fn inside(self, node: Record) -> Place
-        ensures { place_of result ≡ place_inside (place_of self) (head_of 0 node) }
+        ensures place { place_of result ≡ place_inside (place_of self) (head_of 0 node) }
+        ensures kind { result.var_decl_kind ≡ var_decl_kind_of (head_of 0 node) }
     {
         let kind = node.kind;
         Place {
             in_fn: self.in_fn || kind == Kind::Function,
             in_block_stmt: self.in_block_stmt || kind == Kind::Block,
-            in_var: kind == Kind::VarDeclaration && node.is_flagged(),
+            var_decl_kind: VarDeclKind::of(node),
             in_export: kind == Kind::ExportDeclaration
                 || (self.in_export && (kind == Kind::VarDeclaration || kind == Kind::Declarator)),
             parent: Some(kind),
@@ -91,8 +114,15 @@ impl Place {
     }
 }
 
+/// Whether the children of the chain's first record are a list of statements or items.
+pub fn first_has_list(chain: Children<'_>) -> bool
+    ensures { result ≡ listed_first (as_chain chain.entry) }
+{
+    chain.first().is_some_and(|node| has_list(node.record.kind))
+}
+
 /// Whether the children of such a record are a list of statements or items.
-pub fn has_list(kind: Kind) -> bool
+fn has_list(kind: Kind) -> bool
     ensures { result ≡ listed (kind_word kind) }
 {
     matches!(kind, Kind::Module | Kind::Script | Kind::Block)

@@ -12,7 +12,7 @@ use crate::wraps::call_unwraps;
 use judge::Judge;
 use records::{Children, Kind, Node};
 use shaker::perform::Verdict;
-use shaker::place::{Place, has_list};
+use shaker::place::{Place, VarDeclKind};
 
 /// What a removal goes by: the judge, and the settings, lists and tables.
 #[derive(Drop)]
@@ -61,9 +61,10 @@ impl<'t, J: Judge> TreeShaker<'t, J> {
     fn declarator_goes(&self, place: Place, node: Node<'_>) -> bool
         ensures { result ≡ declarator_goes (by_shaker J.Judge.acts self.now) (place_of place) (head_of_node node.entry) (as_chain node.entry.below) }
     {
+        let is_var = place.var_decl_kind == Some(VarDeclKind::Var);
         node.record.kind == Kind::Declarator
             && !place.in_export
-            && self.basis.name_goes(place, place.in_var, node.below)
+            && self.basis.name_goes(place, is_var, node.below)
             && !self.first_acts(node.below.after())
     }
 
@@ -97,8 +98,6 @@ impl<'t, J: Judge> TreeShaker<'t, J> {
             Verdict::Yields
         } else if call_unwraps(node) {
             Verdict::Unwraps
-        } else if has_list(node.record.kind) {
-            Verdict::Sweeps
         } else {
             Verdict::Stays
         }

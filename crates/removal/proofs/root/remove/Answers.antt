@@ -1,13 +1,11 @@
 use Rattle.std.proofs.Common.{◌≡◌}
 use Rattle.rules.specs.Tree.{below}
 use Rattle.rules.specs.Words.{tree_of}
-use Rattle.edit.proofs.Moves.{again}
 use Rattle.records.specs.Chains.{as_chain}
 use Rattle.shaker.specs.Places.{place_of}
 use Rattle.verdicts.specs.Grounds.{config_of}
 use Rattle.verdicts.specs.Shaking.{by_shaker}
 use Rattle.verdicts.proofs.RowsRead.{by_held}
-use Rattle.removal.proofs.Treats.{treats}
 use Rattle.removal.proofs.Roots.{whole_root, under_root, entered_root, passed_root}
 use Rattle.removal.proofs.root.remove.Goals as goal
 
@@ -28,31 +26,20 @@ returns-then-not-enters_at g c =
       others = left.others;
     }
 
-pub treat-changed-requires : goal.treat-changed-requires
-treat-changed-requires g c =
-    (below (tree_of c.args.words.now 1), under_root _ (tree_of c.args.words.now 1) _ c.first_slot-slot.ensures c.requires.tree)
-
-pub sweep-requires : goal.sweep-requires
-sweep-requires g c =
-    let by = by_shaker g.J.Judge.acts c.args.shaker.now in
-    let z = place_of c.below-inside.result in
-    let ch = below (tree_of c.args.words.now 1) in
-    let nested = under_root _ (tree_of c.args.words.now 1) _ c.first_slot-slot.ensures c.requires.tree in
-    (treats by z ch, again _ _ _ ch (treats by z ch) nested.at (c.treat-changed.ensures.made ch nested))
+pub visit_mut_stmt_likes-requires : goal.visit_mut_stmt_likes-requires
+visit_mut_stmt_likes-requires g c =
+    (below (tree_of c.args.words.now 1), under_root _ (tree_of c.args.words.now 1) _ c.first_slot.ensures c.requires.tree)
 
 pub returns : goal.returns
 returns g c =
     let by = by_shaker g.J.Judge.acts c.args.shaker.now in
     let basis = c.args.shaker.now.basis in
-    let z = place_of c.below-inside.result in
     let tree = tree_of c.args.words.now 1 in
     let is : as_chain c.of-root.result ≡ tree = λ i. tree_of (c.of-root.ensures.words i) (c.of-root.ensures.at i) in
-    let ch = below tree in
-    let nested = under_root _ tree _ c.first_slot-slot.ensures c.requires.tree in
-    let made = c.treat-changed.ensures.made ch nested in
-    let left = entered_root c.args.words.now by _ c.at_root-place.ensures tree _ is _ _ _ z _ c.first_slot-slot.ensures c.requires.tree
-    c.if-not-enters_at.ensures c.below-inside.ensures made (c.treat-changed.ensures.changed ch nested)
-    (c.sweep.ensures (treats by z ch) (again _ _ _ ch (treats by z ch) nested.at made)) in
+    let nested = under_root _ tree _ c.first_slot.ensures c.requires.tree in
+    let list = c.visit_mut_stmt_likes.ensures in
+    let left = entered_root c.args.words.now by _ c.at_root-place.ensures tree _ is _ _ (place_of c.below-inside.result) _ c.first_slot.ensures c.requires.tree
+    c.if-not-enters_at.ensures c.below-inside.ensures (list.made (below tree) nested) (list.changed (below tree) nested) in
     record {
       tree = left.tree;
       changed = left.flag;

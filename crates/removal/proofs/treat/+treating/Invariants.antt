@@ -6,10 +6,13 @@ use Rattle.removal.proofs.Treats.{Walking}
 use Rattle.removal.proofs.treat.+treating.Given as goal
 
 abbrev pub decreases-treat : goal.decreases-treat
-decreases-treat g l = l.left * 2 + 1
+decreases-treat g l = l.left * 3 + 1
 
 abbrev pub decreases-treat_record : goal.decreases-treat_record
-decreases-treat_record g l = l.left * 2
+decreases-treat_record g l = l.left * 3
+
+abbrev pub decreases-visit_mut_stmt_likes : goal.decreases-visit_mut_stmt_likes
+decreases-visit_mut_stmt_likes g l = l.left * 3 + 2
 
 abbrev pub invariant-treat-loop-words : goal.invariant-treat-loop-words
 invariant-treat-loop-words g l =

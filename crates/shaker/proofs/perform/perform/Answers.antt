@@ -2,7 +2,7 @@ use Rattle.std.proofs.Common.{refl}
 use Rattle.rules.specs.Tree.{after}
 use Rattle.rules.specs.Tree.Chain.{end, link}
 use Rattle.rules.specs.Kinds.{empty_statement, expression_statement}
-use Rattle.rules.specs.Removal.{wrapped_object, swept, become, joined}
+use Rattle.rules.specs.Removal.{wrapped_object, become, joined}
 use Rattle.shaker.proofs.Performs.{to_nothing, to_value, to_object, stays_at}
 use Rattle.shaker.proofs.perform.perform.Goals as goal
 
@@ -21,10 +21,6 @@ lift-requires-in-Unwraps c =
     let rest = c.requires.2 in
     let at = c.requires.3 in
     (link h ch rest, wrapped_object ch, to_object _ _ h ch rest at _ (c.wrapped_object-object.ensures (link h ch rest) at.holds))
-
-pub returns-in-Sweeps : goal.returns-in-Sweeps
-returns-in-Sweeps c = λ h ch rest at.
-    rw c.in-Sweeps.is (stays_at _ _ h ch rest at _ _ h (swept ch) refl c.next_slot-in-Sweeps.ensures (c.sweep_children.ensures h ch rest at))
 
 pub returns-in-Empties : goal.returns-in-Empties
 returns-in-Empties c = λ h ch rest at.
