@@ -1,5 +1,5 @@
 -- The law about runs, part by part.
-use Rattle.rules.specs.Law.{LawAboutRuns}
+use Rattle.laws.specs.Law.{LawAboutRuns}
 use Rattle.laws.proofs.AlikeRuns.{order_law}
 use Rattle.laws.proofs.References.{references_law}
 use Rattle.laws.proofs.Repeats.{repeats_law}

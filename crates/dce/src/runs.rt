@@ -1,7 +1,7 @@
 ghost use Rattle.std.specs.Prelude.{◌≡◌, true, false, map, IfOk, MatchResult};
 ghost use Rattle.rules.specs.Calls as book;
 ghost use Rattle.rules.specs.Calls.{calls, final};
-ghost use Rattle.rules.specs.Law.{Law, begun_on};
+ghost use Rattle.laws.specs.Law.{Law, begun_on};
 ghost use Rattle.verdicts.specs.Grounds.{config_of};
 ghost use Rattle.dce.specs.Calls.{lengths_fit, handed, config_by, state, state_by};
 ghost use Rattle.dce.specs.Faults.{NotBegun};

@@ -9,7 +9,7 @@ use Rattle.rules.specs.Tree.Chain.{end, link}
 use Rattle.rules.specs.Names.{among}
 use Rattle.rules.specs.Removal.{Config, By, at_root, Left, treat}
 use Rattle.rules.specs.Calls.{Filled, pass_by}
-use Rattle.rules.specs.Law.{Shuffled, item_at, SameLost}
+use Rattle.laws.specs.Law.{Shuffled, item_at, SameLost}
 use Rattle.laws.proofs.AlikeTables.{Alike}
 use Rattle.laws.proofs.AlikeRings.{rows_alike}
 use Rattle.laws.proofs.UnnumberedRemoval.{treat_unnumbered}

@@ -17,7 +17,7 @@ use Rattle.rules.specs.Removal.{Config}
 use Rattle.rules.specs.Calls.{State, Handed, handed_fit, zeroed, cleared, Pass, After, pass_once, passes_from, reached_by, repeat_ended, Call, Answer, call_fitting, unfit_answer, call, calls, final}
 use Rattle.rules.specs.Calls.Call.{pass, reset, repeat}
 use Rattle.rules.specs.Calls.Answer.{pass_answer, repeat_answer}
-use Rattle.rules.specs.Law.{begun_on, outcome_tree, Reordered, BegunAlike, told, Telling, tellings, SameLost}
+use Rattle.laws.specs.Law.{begun_on, outcome_tree, Reordered, BegunAlike, told, Telling, tellings, SameLost}
 use Rattle.laws.specs.Parts.{OrderLaw}
 use Rattle.laws.proofs.Runs.{turn}
 use Rattle.laws.proofs.OrderCount.{reached_turned}

@@ -17,7 +17,7 @@ use Rattle.rules.specs.Rings.{discount}
 use Rattle.rules.specs.Judges.{Lawful}
 use Rattle.rules.specs.Removal.{Config, By, at_root, treat}
 use Rattle.rules.specs.Calls.{State, most_table_words, handed_fit, zeroed, cleared, filled_up, Filled, fill_tables, Pass, pass_by, remove, After, passed, pass_filled, pass_checked, pass_once}
-use Rattle.rules.specs.Law.{outcome_tree, SameLost}
+use Rattle.laws.specs.Law.{outcome_tree, SameLost}
 use Rattle.laws.proofs.TablesRoom.{Bounded}
 use Rattle.laws.proofs.TablesPass.{declared_rows, tables_of, tables_fit, fill_tables_bounded}
 use Rattle.laws.proofs.UnnumberedRemoval.{blind}

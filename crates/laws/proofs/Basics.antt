@@ -18,7 +18,7 @@ use Rattle.rules.specs.Tree.{Head, Chain, ◌is◌, is_end, after}
 use Rattle.rules.specs.Tree.Chain.{link, end}
 use Rattle.rules.specs.Kinds.{empty_statement, block, plain_expression, member}
 use Rattle.rules.specs.Removal.{swept, become, values, joined}
-use Rattle.rules.specs.Law.{In}
+use Rattle.laws.specs.Law.{In}
 
 -- TESTS AND CHOICES
 

@@ -16,7 +16,7 @@ use Rattle.rules.specs.Tables.{NameRow, Counts, no_rows, look}
 use Rattle.rules.specs.Rings.{component, closed, discount}
 use Rattle.rules.specs.Removal.{Config, By, Place, place_inside, unused, never_read, entered, all_go, Verdict, verdict, treat, declarator_names, takes, gives, taken, gave}
 use Rattle.rules.specs.Removal.Verdict.{stays, sweeps, empties, unlinks, restates, yields, unwraps}
-use Rattle.rules.specs.Law.{In, Reference}
+use Rattle.laws.specs.Law.{In, Reference}
 use Rattle.laws.proofs.Basics.{in_append, only_if}
 use Rattle.laws.proofs.Verdicts.{Unused, Means, can_unused, means}
 use Rattle.laws.proofs.TablesFilled.{filled}

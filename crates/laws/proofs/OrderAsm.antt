@@ -8,7 +8,7 @@ use Rattle.rules.specs.Tree.{Head, Chain, ◌is◌}
 use Rattle.rules.specs.Tree.Chain.{end, link}
 use Rattle.rules.specs.Kinds.{literal, asm_symbol}
 use Rattle.rules.specs.Removal.{By, Place, asm, treat}
-use Rattle.rules.specs.Law.{WithoutAsm}
+use Rattle.laws.specs.Law.{WithoutAsm}
 use Rattle.laws.proofs.KeepsEverywhere.{Everywhere, treat_all}
 
 -- a string 'use asm'

@@ -18,8 +18,8 @@ use Rattle.rules.specs.Kinds.{module_root, script_root}
 use Rattle.rules.specs.Names.{same, among, names_of, keep, under_nothing, under, declares, declaring, declared}
 use Rattle.rules.specs.Counting.{Event, Found, outermost, events_of}
 use Rattle.rules.specs.Tables.{no_rows}
-use Rattle.rules.specs.Law.{Shuffled}
-use Rattle.rules.specs.Law.Shuffled.{none, past, swap, again}
+use Rattle.laws.specs.Law.{Shuffled}
+use Rattle.laws.specs.Law.Shuffled.{none, past, swap, again}
 use Rattle.laws.proofs.Basics.{or_swap, Commutes, fold_swap}
 use Rattle.laws.proofs.TablesFilled.{filled}
 use Rattle.laws.proofs.TablesPass.{counts}

@@ -12,7 +12,7 @@ use Rattle.rules.specs.Tree.Chain.{end, link}
 use Rattle.rules.specs.Kinds.{empty_statement, block, for_statement, call_expression, assignment, expression}
 use Rattle.rules.specs.Removal.{By, Place, place_inside, entered, swept, Verdict, verdict, Left, done, treated, treat}
 use Rattle.rules.specs.Removal.Verdict.{stays, sweeps, empties, unlinks, restates, yields, unwraps}
-use Rattle.rules.specs.Law.{item_at}
+use Rattle.laws.specs.Law.{item_at}
 use Rattle.laws.proofs.Verdicts.{Means, means}
 use Rattle.laws.proofs.OrderRemoval.{item_left, remains, remains_link, remains_unnumbered}
 

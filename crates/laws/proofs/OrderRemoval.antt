@@ -13,8 +13,8 @@ use Rattle.rules.specs.Tree.{Head, Chain, is_end, append, unnumbered}
 use Rattle.rules.specs.Tree.Chain.{end, link}
 use Rattle.rules.specs.Kinds.{module_root, script_root, for_statement}
 use Rattle.rules.specs.Removal.{By, Place, at_root, place_inside, asm, entered, swept, Left, unchanged, both, treated, treat}
-use Rattle.rules.specs.Law.{Shuffled}
-use Rattle.rules.specs.Law.Shuffled.{none, past, swap, again}
+use Rattle.laws.specs.Law.{Shuffled}
+use Rattle.laws.specs.Law.Shuffled.{none, past, swap, again}
 use Rattle.laws.proofs.Basics.{or_swap}
 use Rattle.laws.proofs.Verdicts.{entered_anywhere}
 use Rattle.laws.proofs.UnnumberedRemoval.{swept_unnumbered, treat_unnumbered}

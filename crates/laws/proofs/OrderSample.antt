@@ -2,8 +2,8 @@
 use Rattle.std.proofs.Common.{ℕ, List, [], ◌∷◌, refl}
 use Rattle.rules.specs.Kinds.{script_root, block, expression_statement, fn_declaration, function, identifier, call_expression}
 use Rattle.rules.specs.Check.{check}
-use Rattle.rules.specs.Law.{outcome_tree, Reordered}
-use Rattle.rules.specs.Law.Shuffled.{swap}
+use Rattle.laws.specs.Law.{outcome_tree, Reordered}
+use Rattle.laws.specs.Law.Shuffled.{swap}
 use Rattle.rules.specs.Scripts.{a, b, own, ring}
 
 -- function b(){a()} function a(){b()}

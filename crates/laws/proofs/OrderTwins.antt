@@ -15,7 +15,7 @@ use Rattle.rules.specs.Kinds.{module_root, script_root, expression, statement, i
 use Rattle.rules.specs.Grammar.{root}
 use Rattle.rules.specs.Held.{Numbers, Apart, Formed}
 use Rattle.rules.specs.Removal.{By, at_root, treat}
-use Rattle.rules.specs.Law.{Shuffled, root_kind, WithoutAsm, Reordered, item_at}
+use Rattle.laws.specs.Law.{Shuffled, root_kind, WithoutAsm, Reordered, item_at}
 use Rattle.rules.proofs.Sounds.{check_sound}
 use Rattle.laws.proofs.Formed.{list_of, listed, formed_one}
 use Rattle.laws.proofs.KeepsApart.{keeps_apart}

@@ -14,7 +14,7 @@ use Rattle.rules.specs.Held.{Formed}
 use Rattle.rules.specs.Counting.{Event, Role, Around, reading, own, inside}
 use Rattle.rules.specs.Counting.Role.{declared_here, written}
 use Rattle.rules.specs.Removal.{swept, values, joined}
-use Rattle.rules.specs.Law.{In}
+use Rattle.laws.specs.Law.{In}
 use Rattle.laws.proofs.Basics.{swept_both, joined_both}
 use Rattle.laws.proofs.Formed.{first_kind, listed, declarator_value}
 use Rattle.laws.proofs.KeepsTable.{declarators}

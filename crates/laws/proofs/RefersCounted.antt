@@ -8,7 +8,7 @@ use Rattle.rules.specs.Tree.Chain.{end, link}
 use Rattle.rules.specs.Kinds.{export_declaration}
 use Rattle.rules.specs.Names.{exported}
 use Rattle.rules.specs.Counting.{Event, Found, nothing, Around, reading, readings, marks, own, opens, leave, inside, count}
-use Rattle.rules.specs.Law.{In, Reference}
+use Rattle.laws.specs.Law.{In, Reference}
 use Rattle.laws.proofs.Basics.{in_append, in_left, in_right, only_if}
 use Rattle.laws.proofs.RefersExported.{in_exported, exported_in}
 use Rattle.laws.proofs.Refers.{Refers}

@@ -14,7 +14,7 @@ use Rattle.rules.specs.Held.{Formed}
 use Rattle.rules.specs.Names.{binds, nests, exported}
 use Rattle.rules.specs.Removal.{By, Place, place_inside, entered, swept, wrapped_object, Verdict, verdict, Left, done, treated, treat}
 use Rattle.rules.specs.Removal.Verdict.{stays, sweeps, empties, unlinks, restates, yields, unwraps}
-use Rattle.rules.specs.Law.{In}
+use Rattle.laws.specs.Law.{In}
 use Rattle.laws.proofs.Basics.{in_append, in_left, in_right}
 use Rattle.laws.proofs.Formed.{first_kind, assigned_value}
 use Rattle.laws.proofs.Verdicts.{wraps, Means, means, treated_both}

@@ -11,7 +11,7 @@ use Rattle.rules.specs.Held.{Numbers}
 use Rattle.rules.specs.Names.{among}
 use Rattle.rules.specs.Counting.{Event, holders, refer, Found, nothing, Role, Around, outermost, put, reference, reading, writing, named_here, own, inside, events_of}
 use Rattle.rules.specs.Counting.Role.{declared_here, written, read_and_written}
-use Rattle.rules.specs.Law.{In, Reference, Inside}
+use Rattle.laws.specs.Law.{In, Reference, Inside}
 use Rattle.laws.proofs.Basics.{in_append}
 use Rattle.laws.proofs.RefersExported.{Exports}
 use Rattle.laws.proofs.Refers.{Here, Refers}

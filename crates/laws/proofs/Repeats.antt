@@ -17,7 +17,7 @@ use Rattle.rules.specs.Calls.{State, cleared, Pass, pass_by, remove, After, pass
 use Rattle.rules.specs.Calls.Call.{pass, reset, repeat}
 use Rattle.rules.specs.Calls.Answer.{repeat_answer}
 use Rattle.rules.specs.Calls.Repeated.{repeated, stopped}
-use Rattle.rules.specs.Law.{begun_on, outcome_tree, Removable, Counted, RepeatKept}
+use Rattle.laws.specs.Law.{begun_on, outcome_tree, Removable, Counted, RepeatKept}
 use Rattle.laws.specs.Parts.{RepeatsLaw}
 use Rattle.laws.specs.RepeatsLaw.{BoundNeverEnds}
 use Rattle.laws.proofs.KeepsReached.{lost_reached}

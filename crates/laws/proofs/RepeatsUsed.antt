@@ -15,7 +15,7 @@ use Rattle.rules.specs.Tables.{NameRow, look}
 use Rattle.rules.specs.Rings.{discount}
 use Rattle.rules.specs.Removal.{Config, By, Place, at_root, place_inside, unused, has_list, entered, swept, fn_goes, Left, treated, treat}
 use Rattle.rules.specs.Calls.{Pass, pass_by, remove}
-use Rattle.rules.specs.Law.{removable, Removable, Counted}
+use Rattle.laws.specs.Law.{removable, Removable, Counted}
 use Rattle.laws.proofs.Basics.{swept_both}
 use Rattle.laws.proofs.Verdicts.{Kept, treated_kept, entered_anywhere, by_list}
 use Rattle.laws.proofs.TablesTold.{counted_only}

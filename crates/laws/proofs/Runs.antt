@@ -19,7 +19,7 @@ use Rattle.rules.specs.Tables.{Room, room, read_declared}
 use Rattle.rules.specs.Removal.{Config, By, at_root, treat}
 use Rattle.rules.specs.Calls.{State, Handed, handed_fit, cleared, filled_up, Filled, fill_tables, Pass, pass_by, remove, After, passed, pass_filled, pass_checked, pass_once, passes_from, reached_by, Call, Answer, call_fitting, unfit_answer, call, calls, final, passes_made}
 use Rattle.rules.specs.Calls.Call.{pass, reset, repeat}
-use Rattle.rules.specs.Law.{In, begun_on, outcome_tree}
+use Rattle.laws.specs.Law.{In, begun_on, outcome_tree}
 use Rattle.rules.proofs.Sounds.{check_sound}
 use Rattle.laws.proofs.Basics.{elim_both, in_append}
 use Rattle.laws.proofs.KeepsFormed.{keeps_formed}

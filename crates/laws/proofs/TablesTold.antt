@@ -10,7 +10,7 @@ use Rattle.rules.specs.Tree.{Name}
 use Rattle.rules.specs.Names.{same}
 use Rattle.rules.specs.Counting.{Event}
 use Rattle.rules.specs.Tables.{NameRow, Counts, no_rows, look}
-use Rattle.rules.specs.Law.{In, Counted}
+use Rattle.laws.specs.Law.{In, Counted}
 use Rattle.rules.proofs.SameNames.{same_eq, same_refl}
 use Rattle.laws.proofs.TablesFilled.{adds, entered, filled, look_entered}
 use Rattle.laws.proofs.TablesEdges.{some_edge, held_edge, some_edge_entered}

@@ -1,3 +1,4 @@
+pub mod Law
 pub mod KeepsTree
 pub mod Parts
 pub mod RepeatsLaw

@@ -8,7 +8,7 @@ use Rattle.std.specs.Prelude.{List}
 use Rattle.rules.specs.Judges.{Lawful}
 use Rattle.rules.specs.Removal.{Config}
 use Rattle.rules.specs.Calls.{Handed, Call}
-use Rattle.rules.specs.Law.{OrderKept, ReferencesKept, RepeatsKept}
+use Rattle.laws.specs.Law.{OrderKept, ReferencesKept, RepeatsKept}
 
 -- the order of top-level items
 abbrev pub OrderLaw : Type 0

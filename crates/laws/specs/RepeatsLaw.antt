@@ -6,7 +6,7 @@ use Rattle.rules.specs.Removal.{Config}
 use Rattle.rules.specs.Calls.{Handed, After, Call, Answer, calls}
 use Rattle.rules.specs.Calls.Answer.{repeat_answer}
 use Rattle.rules.specs.Calls.Repeated.{stopped}
-use Rattle.rules.specs.Law.{In, begun_on}
+use Rattle.laws.specs.Law.{In, begun_on}
 
 -- 0, the number told where the bound on passes is met, is never told
 abbrev pub BoundNeverEnds : Type 0

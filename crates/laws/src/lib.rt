@@ -1,6 +1,6 @@
 #![tactic(auto)]
 
-ghost use Rattle.rules.specs.Law.{LawAboutRuns};
+ghost use Rattle.laws.specs.Law.{LawAboutRuns};
 ghost use Rattle.laws.specs.KeepsTree.{KeepsFormed, KeepsApart, KeepsLevel, KeepsNumbers, KeepsRoot, CheckedAgain, FewerReached, LostReached};
 ghost use Rattle.laws.specs.RepeatsLaw.{BoundNeverEnds};
 

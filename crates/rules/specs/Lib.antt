@@ -16,5 +16,4 @@ pub mod Reaching
 pub mod Judges
 pub mod Removal
 pub mod Calls
-pub mod Law
 pub mod Scripts

@@ -1,6 +1,6 @@
 use Rattle.std.proofs.Common.{◌≡◌, ◌<◌, ◌≤◌, map, length, Ok, ap, ◌∙◌, arith, rules}
 use Rattle.std.proofs.lemmas.List.{take_at}
-use Rattle.rules.specs.Law.{begun_on}
+use Rattle.laws.specs.Law.{begun_on}
 use Rattle.verdicts.specs.Grounds.{config_of}
 use Rattle.dce.specs.Calls.{handed}
 use Rattle.dce.specs.Running.{answer_of}

@@ -1,4 +1,4 @@
-use Rattle.rules.specs.Law.{begun_on}
+use Rattle.laws.specs.Law.{begun_on}
 use Rattle.verdicts.specs.Grounds.{config_of}
 use Rattle.dce.specs.Calls.{handed}
 use Rattle.dce.proofs.Running.{Running}
