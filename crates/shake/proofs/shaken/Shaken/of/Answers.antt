@@ -1,5 +1,5 @@
 use Rattle.std.proofs.Common.{map, ap, ◌∙◌}
-use Rattle.rules.specs.Law.{begun_on}
+use Rattle.laws.specs.Law.{begun_on}
 use Rattle.verdicts.specs.Grounds.{config_of}
 use Rattle.dce.specs.Calls.{handed}
 use Rattle.dce.specs.Running.{answer_of}
