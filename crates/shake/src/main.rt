@@ -12,12 +12,10 @@ mod refused;
 mod report;
 mod shaken;
 
-ghost use Rattle.std.specs.Prelude.{◌≡◌, IfOk, Ok};
-
 use judge::{Cautious, Plain};
 use report::report;
 use std::io::Read;
-use text::{Case, Cases, Judge, TextFault};
+use text::{Case, Cases, Judge};
 
 fn main(rt: HostRuntime) -> anyhow::Result<()> {
     let mut text = Vec::new(rt.alloc());
@@ -25,23 +23,13 @@ fn main(rt: HostRuntime) -> anyhow::Result<()> {
     shake(&rt, text.as_slice())
 }
 
-// Shakes each case of the text; bad text is reported with its line, and ends the program.
+// Shakes each case of the text; bad text ends the program with an error that names its line.
 fn shake(rt: &HostRuntime, text: &[u8]) -> anyhow::Result<()> {
     let mut cases = Cases::new(text);
-    while let Some(case) = reported(rt, cases.next_case(rt.alloc()))? {
+    while let Some(case) = cases.next_case(rt.alloc())? {
         shake_case(rt, &case)?;
     }
     Ok(())
-}
-
-// What was read of the next case, if there is one; what is wrong with the text is reported.
-fn reported(rt: &HostRuntime, read: Result<Option<Case>, TextFault>) -> anyhow::Result<Option<Case>>
-    ensures { IfOk result (λ found. read ≡ Ok found) }
-{
-    if let Err(fault) = &read {
-        eprintln!(rt; "shake: {fault}")?;
-    }
-    Ok(read?)
 }
 
 // Shakes a case's tree with its judge.
