@@ -218,7 +218,7 @@ events_fine : (f : Found) (s u : State) (o : Outcome State) → o ≡ entering f
 events_fine f s u o e is_fine = fine_back (fill_words f.events s.tables) _ _ u (sym e ∙ is_fine)
 
 events_refused : (f : Found) (s : State) (o : Outcome State) (number at : ℕ) → o ≡ entering f s → o ≡ refused number at → fill_words f.events s.tables ≡ refused number at
-events_refused f s o number at e is-refused = refused_back (fill_words f.events s.tables) _ _ number at (sym e ∙ is-refused)
+events_refused f s o number at e is_refused = refused_back (fill_words f.events s.tables) _ _ number at (sym e ∙ is_refused)
 
 from_outermost : {A : Type 0} (tree : Chain) (names edges : List ℕ) (u : State) (result : Result A CountFault)
     → Went (walk (seen outermost) tree (state names edges no_notes)) result u

@@ -1,4 +1,4 @@
-ghost use Rattle.std.specs.Prelude.{◌≡◌, ℕ, ◌/◌, ◌≤◌, true, false, List, [], length, MatchResult};
+ghost use Rattle.std.specs.Prelude.{◌≡◌, ℕ, ◌/◌, true, false, List, [], length, MatchResult};
 ghost use Rattle.rules.specs.Calls.{zeroed, declared_after};
 ghost use Rattle.rules.specs.Calls as book;
 ghost use Rattle.rules.specs.Held.{Tree};

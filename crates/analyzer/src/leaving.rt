@@ -1,4 +1,4 @@
-ghost use Rattle.std.specs.Prelude.{◌≡◌, ◌*◌, ◌≤◌, length};
+ghost use Rattle.std.specs.Prelude.{◌*◌, ◌≤◌, length};
 ghost use Rattle.rules.specs.Refusals.{Says};
 ghost use Rattle.rules.specs.Tree.{reached};
 ghost use Rattle.data.specs.Events.{tables};

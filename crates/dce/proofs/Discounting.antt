@@ -6,24 +6,14 @@ use Rattle.rules.specs.Rings.{component, closed, less, discount_row, discount_ro
 use Rattle.tables.specs.Held.{Proper}
 use Rattle.tables.specs.Matching.{name_words, NamesHeld, Named, names_of}
 use Rattle.tables.proofs.Matched.{names_words, edges_words, edges_stay}
+use Rattle.laws.proofs.RingsDiscount.{name_kept}
+use Rattle.laws.proofs.OrderWords.{length_discounted}
 use Rattle.rings.specs.Ringed.{Ready}
 use Rattle.rings.specs.Spending.{Subtracted}
 
-discount_name : (c : Counts) (r : NameRow) → (discount_row c r).name ≡ r.name
-discount_name c r =
-    let some = less (component c.edges r.name) c.edges r in
-    ⊎_elim
-    (λ (t : closed c r.name ≡ true). ap (λ x. x.name) (cond-true (closed c r.name) some r t))
-    (λ (f : closed c r.name ≡ false). ap (λ x. x.name) (cond-false (closed c r.name) some r f))
-    (cases_Bool (closed c r.name))
-
 discount_names : (c : Counts) (rs : List NameRow) → names_of (discount_rows c rs) ≡ names_of rs
 discount_names c [] = refl
-discount_names c (r ∷ rs) = ap (λ n. n ∷ names_of (discount_rows c rs)) (discount_name c r) ∙ ap (λ ns. r.name ∷ ns) (discount_names c rs)
-
-discount_many : (c : Counts) (rs : List NameRow) → length (discount_rows c rs) ≡ length rs
-discount_many c [] = refl
-discount_many c (r ∷ rs) = ap (λ n. suc n) (discount_many c rs)
+discount_names c (r ∷ rs) = ap (λ n. n ∷ names_of (discount_rows c rs)) (name_kept c r) ∙ ap (λ ns. r.name ∷ ns) (discount_names c rs)
 
 proper_named : (rs : List NameRow) → Proper names_width name_words rs → Named (names_of rs)
 proper_named [] proper = tt
@@ -34,7 +24,7 @@ module _ (c : Counts) (found found' names edges : List ℕ) (ready : Ready c fou
   pub discounted_held : (after : List ℕ) → Subtracted names edges after → NamesHeld found (discount c) after
   discounted_held after is =
       let named = subst (λ ns. Named ns) (sym (discount_names c c.names)) (proper_named c.names ready.names_held.proper) in
-      (names_words found (discount c) after).1 named (subst (λ (n : ℕ). n ≤ length found / names_width) (sym (discount_many c c.names)) ready.names_held.room) (is c found found' ready)
+      (names_words found (discount c) after).1 named (subst (λ (n : ℕ). n ≤ length found / names_width) (sym (length_discounted c c.names)) ready.names_held.room) (is c found found' ready)
 
   -- and the words of edges, which speak of rows by their numbers, are as the book has them beside those
   pub edges_left : edges ≡ table edges_width (edges_in_words (discount c) c.edges) found'

@@ -60,10 +60,6 @@ module _ (words : List ℕ) (tree : Chain) (held : Tree words tree) (d n e n0 e0
       ∙ ap (λ o. and_then o (λ counts. fine (record { declared = read_declared d'; counts = counts })))
       (refused_by n e number at (fill (room d n e) (events_of tree) no_rows) (told (refused number at) is))
 
-pub full_declared : (tree : Chain) (d n e d' : List ℕ) (number at : ℕ) → FullDeclared tree number at d d' → Refused tree d n e number at
-full_declared tree d n e d' number at full =
-    ap (λ o. and_then o (λ rows. and_then (fill (room d n e) (events_of tree) no_rows) (λ counts. fine (record { declared = rows; counts = counts })))) (full.0 (room d n e) refl)
-
 -- a declared without rows that is zeroed again is as the book leaves it
 pub emptied : (d d' d'' : List ℕ) → ltb 0 (used declared_width d) ≡ false → zeroed declared_width d' ≡ zeroed declared_width d → d'' ≡ zeroed declared_width d'
     → d'' ≡ declared_after (read_declared d) [] d

@@ -31,11 +31,6 @@ after_next k [] s n d h = absurd (omega (arith, h))
 after_next k (c ∷ cs) s zero d h = refl
 after_next k (c ∷ cs) s (suc n) d h = after_next k cs (call k (call_of c) s).state n d (omega (arith, h))
 
--- the state after all
-pub after_all : (k : Config) (cs : List Call) (s : State) → after k cs s (length cs) ≡ final k (map call_of cs) s
-after_all k [] s = refl
-after_all k (c ∷ cs) s = after_all k cs (call k (call_of c) s).state
-
 -- answers, each that of its call, are those of the list
 pub all_answered : (k : Config) (cs : List Call) (s : State) (xs : List Answer) (a : Answer) (d : Call) → length xs ≡ length cs
     → ((n : ℕ) → n < length cs → answer_of (get_or xs n a) ≡ (call k (call_of (get_or cs n d)) (after k cs s n)).answer)

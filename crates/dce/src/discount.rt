@@ -1,4 +1,4 @@
-ghost use Rattle.std.specs.Prelude.{◌≡◌, ℕ, ◌≤◌, List, length, IfOk, vec_len};
+ghost use Rattle.std.specs.Prelude.{ℕ, ◌≤◌, List, length, IfOk, vec_len};
 ghost use Rattle.rules.specs.Tables.{Counts};
 ghost use Rattle.rings.specs.Ringed.{Ready};
 ghost use Rattle.rings.specs.Spending.{Subtracted};

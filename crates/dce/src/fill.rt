@@ -1,4 +1,4 @@
-ghost use Rattle.std.specs.Prelude.{◌≡◌, ◌*◌, ◌^◌, ◌<◌, ◌≤◌, MatchResult, List, ℕ, length};
+ghost use Rattle.std.specs.Prelude.{◌≡◌, ◌*◌, ◌^◌, ◌<◌, ◌≤◌, MatchResult, List, length};
 ghost use Rattle.rules.specs.Calls.{declared_after, zeroed};
 ghost use Rattle.rules.specs.Check.{most_nesting};
 ghost use Rattle.rules.specs.Held.{Tree};

@@ -1,11 +1,19 @@
 #![tactic(auto)]
 
 #[cfg(test)]
-mod declarations;
+mod assignments;
+#[cfg(test)]
+mod calls;
+#[cfg(test)]
+mod classes;
+#[cfg(test)]
+mod entered;
 #[cfg(test)]
 mod expect;
 #[cfg(test)]
-mod expressions;
+mod functions;
+#[cfg(test)]
+mod imports;
 #[cfg(test)]
 mod lists;
 #[cfg(test)]
@@ -14,3 +22,5 @@ mod refusals;
 mod runs;
 #[cfg(test)]
 mod settings;
+#[cfg(test)]
+mod vars;

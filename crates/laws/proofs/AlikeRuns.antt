@@ -18,7 +18,7 @@ use Rattle.rules.specs.Calls.{State, Handed, handed_fit, zeroed, cleared, Pass, 
 use Rattle.rules.specs.Calls.Call.{pass, reset, repeat}
 use Rattle.rules.specs.Calls.Answer.{pass_answer, repeat_answer}
 use Rattle.laws.specs.Law.{begun_on, outcome_tree, Reordered, BegunAlike, told, Telling, tellings, SameLost}
-use Rattle.laws.specs.Parts.{OrderLaw}
+use Rattle.laws.proofs.Parts.{OrderLaw}
 use Rattle.laws.proofs.Runs.{turn}
 use Rattle.laws.proofs.OrderCount.{reached_turned}
 use Rattle.laws.proofs.OrderWords.{declared_read_back}

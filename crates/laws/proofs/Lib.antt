@@ -1,3 +1,5 @@
+-- the three parts of the law
+pub mod Parts
 -- the small laws, the table of kinds, the verdicts
 pub mod Basics
 pub mod Formed

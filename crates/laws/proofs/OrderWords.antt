@@ -3,6 +3,7 @@
 --
 --   table_sizes                                   tables of equally long rows, put into equally long words
 --   declared_words_sizes, names_words_sizes, edges_words_sizes      equally many rows have equally many words
+--   length_discounted                             discounting keeps the number of rows
 --   declared_read_back                                     the declared names are read back
 use Rattle.std.proofs.Common.{◌≡◌, ℕ, zero, suc, ◌+◌, ◌-◌, ◌*◌, ◌/◌, ◌≤◌, List, [], ◌∷◌, ◌++◌, length, drop, replicate, sym, refl, ap, ◌∙◌, ap₂, append_assoc, arith}
 use Rattle.std.proofs.lemmas.List.{length-append, length-drop, length-replicate}
@@ -35,7 +36,7 @@ length_edges_words : (names : List NameRow) (es : List EdgeRow) → length (edge
 length_edges_words names [] = refl
 length_edges_words names (e ∷ es) = let q = length_edges_words names es in omega arith
 
-length_discounted : (c : Counts) (rs : List NameRow) → length (discount_rows c rs) ≡ length rs
+pub length_discounted : (c : Counts) (rs : List NameRow) → length (discount_rows c rs) ≡ length rs
 length_discounted c [] = refl
 length_discounted c (r ∷ rs) = ap suc (length_discounted c rs)
 

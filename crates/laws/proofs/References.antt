@@ -14,7 +14,7 @@ use Rattle.rules.specs.Tables.{Counts}
 use Rattle.rules.specs.Removal.{Config, at_root, taken, gave}
 use Rattle.rules.specs.Calls.{Pass, pass_by, final}
 use Rattle.laws.specs.Law.{In, begun_on, outcome_tree, Reference, InsideRing}
-use Rattle.laws.specs.Parts.{ReferencesLaw}
+use Rattle.laws.proofs.Parts.{ReferencesLaw}
 use Rattle.laws.proofs.KeepsFormed.{keeps_formed}
 use Rattle.laws.proofs.Runs.{Later, begun_ready, Made, calls_follow}
 use Rattle.laws.proofs.Runs.Later.{here, onward}

@@ -18,7 +18,7 @@ use Rattle.rules.specs.Calls.Call.{pass, reset, repeat}
 use Rattle.rules.specs.Calls.Answer.{repeat_answer}
 use Rattle.rules.specs.Calls.Repeated.{repeated, stopped}
 use Rattle.laws.specs.Law.{begun_on, outcome_tree, Removable, Counted, RepeatKept}
-use Rattle.laws.specs.Parts.{RepeatsLaw}
+use Rattle.laws.proofs.Parts.{RepeatsLaw}
 use Rattle.laws.specs.RepeatsLaw.{BoundNeverEnds}
 use Rattle.laws.proofs.KeepsReached.{lost_reached}
 use Rattle.laws.proofs.RunsNumbered.{Numbered}

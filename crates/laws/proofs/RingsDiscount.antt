@@ -1,5 +1,6 @@
 -- What the discounts leave of a name's row: its own row, discounted where the name stands in a closed ring; of a missing row, nothing.
 --
+--   name_kept                   a discounted row keeps its name
 --   look_discount               a name's row after the rings are discounted
 --   open_row, counted_row       outside closed rings it is as counted; it is counted where it was
 use Rattle.std.specs.Prelude.{if◌then◌else◌}
@@ -12,7 +13,7 @@ use Rattle.rules.proofs.SameNames.{look_name, look_none}
 use Rattle.laws.proofs.TablesFilled.{some_name}
 
 -- a discounted row keeps its name
-name_kept : (c : Counts) (r : NameRow) → (discount_row c r).name ≡ r.name
+pub name_kept : (c : Counts) (r : NameRow) → (discount_row c r).name ≡ r.name
 name_kept c r = grind arith
 
 -- a name's discounted row, if it has a row

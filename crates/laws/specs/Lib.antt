@@ -1,4 +1,3 @@
 pub mod Law
 pub mod KeepsTree
-pub mod Parts
 pub mod RepeatsLaw

@@ -1,6 +1,5 @@
 #![tactic(auto)]
 
-ghost use Rattle.std.specs.Prelude.{◌≡◌};
 ghost use Rattle.rules.specs.Facts.{CheckSound, CheckComplete, CheckMost, ReadBack, TreeIsRead};
 ghost use Rattle.rules.specs.Reaching.{LeadsTold, ComponentTold};
 ghost use Rattle.rules.specs.Scripts.{Shown};

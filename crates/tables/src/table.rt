@@ -1,4 +1,4 @@
-ghost use Rattle.std.specs.Prelude.{◌≡◌, ℕ, ◌+◌, ◌*◌, ◌/◌, ◌<◌, ◌≤◌, true, false, [], length, IfSome, IfOk, IfErr, MatchOption, nat_lt};
+ghost use Rattle.std.specs.Prelude.{◌≡◌, ◌+◌, ◌*◌, ◌/◌, ◌<◌, ◌≤◌, true, false, [], length, IfSome, IfOk, IfErr, MatchOption, nat_lt};
 ghost use Rattle.rules.specs.Calls.{zeroed};
 ghost use Rattle.tables.specs.Living.{rows, used, free, there, IsThere, start_of, keyed, first_row, added, Free};
 ghost use Rattle.tables.specs.Held.{Holds};
