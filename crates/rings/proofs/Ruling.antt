@@ -24,7 +24,7 @@ row_at (r ∷ rs) (suc v) h = row_at rs v (omega arith)
 
 -- no row passes
 none_at : {Row : Type 0} (f : Row → Bool) (rs : List Row) → some_row f rs ≡ false → (v : ℕ) (r : Row) → nth v rs ≡ Some r → f r ≡ false
-none_at f [] h v r e = let z : ◌≡◌ {A = ℕ} 0 1 = cc in absurd (omega arith)
+none_at f [] h v r e = cc
 none_at f (x ∷ rs) h zero r e = let q : x ≡ r = cc in ap f (sym q) ∙ (or_parts (f x) (some_row f rs) h).0
 none_at f (x ∷ rs) h (suc v) r e = none_at f rs (or_parts (f x) (some_row f rs) h).1 v r e
 
@@ -34,7 +34,7 @@ none_from f (x ∷ rs) h = or_from (f x) (some_row f rs) (h zero x refl) (none_f
 
 -- the row at a place is that of its name
 named_row : (rs : List NameRow) (v : ℕ) (r : NameRow) → Distinct rs → nth v rs ≡ Some r → Present rs r.name × (row_number r.name rs ≡ suc v)
-named_row [] v r d e = let z : ◌≡◌ {A = ℕ} 0 1 = cc in absurd (omega arith)
+named_row [] v r d e = cc
 named_row (x ∷ rs) zero r d e =
     let q : x ≡ r = cc in
     let s : same r.name x.name ≡ true = ap (λ (y : NameRow). same r.name y.name) q ∙ same_refl r.name in

@@ -81,7 +81,7 @@ module _ {Row : Type 0} (passes : Row → Bool) where
       ⊎_elim
       (λ (b : passes x ≡ true).
       let q : Some (n + 1) ≡ None = sym (cond-true (passes x) (Some (n + 1)) (first_from passes (n + 1) rs) b) ∙ e in
-      let z : ◌≡◌ {A = ℕ} 0 1 = cc in absurd (omega arith))
+      cc)
       (λ (b : passes x ≡ false).
       cond-false (passes x) (Some (n + 1)) (first_from passes (n + 1) (rs ++ (r ∷ more))) b
       ∙ first_next (n + 1) rs more r (sym (cond-false (passes x) (Some (n + 1)) (first_from passes (n + 1) rs) b) ∙ e) p

@@ -18,7 +18,7 @@ module _ {Row : Type 0} (w : ℕ) (in_words : Row → List ℕ) where
   -- a word of a row
   word_joined : (rs : List Row) (k i : ℕ) (t : List ℕ) (r : Row) → Proper w in_words rs → nth k rs ≡ Some r → i < w
       → get_or (flat_map in_words rs ++ t) (k * w + i) 0 ≡ get_or (in_words r) i 0
-  word_joined [] k i t r p e h = let z : ◌≡◌ {A = ℕ} 0 1 = cc in absurd (omega arith)
+  word_joined [] k i t r p e h = cc
   word_joined (x ∷ rs) zero i t r p e h =
       let l = p.0 in
       let same : x ≡ r = cc in
@@ -35,7 +35,7 @@ module _ {Row : Type 0} (w : ℕ) (in_words : Row → List ℕ) where
 
   -- an nth row is one of the rows
   pub nth_below : (rs : List Row) (k : ℕ) (r : Row) → nth k rs ≡ Some r → k < length rs
-  nth_below [] k r e = let z : ◌≡◌ {A = ℕ} 0 1 = cc in absurd (omega arith)
+  nth_below [] k r e = cc
   nth_below (x ∷ rs) zero r e = omega arith
   nth_below (x ∷ rs) (suc k) r e = let h = nth_below rs k r e in omega arith
 

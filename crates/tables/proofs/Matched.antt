@@ -128,8 +128,8 @@ declared_read words k = (
 -- names go by their words
 words_apart : (ns ms : List Name) → map id_words ns ≡ map id_words ms → ns ≡ ms
 words_apart [] [] e = refl
-words_apart [] (m ∷ ms) e = let z : ◌≡◌ {A = ℕ} 0 1 = cc in absurd (omega arith)
-words_apart (n ∷ ns) [] e = let z : ◌≡◌ {A = ℕ} 0 1 = cc in absurd (omega arith)
+words_apart [] (m ∷ ms) e = cc
+words_apart (n ∷ ns) [] e = cc
 words_apart (n ∷ ns) (m ∷ ms) e =
     let s : n.symbol ≡ m.symbol = cc in
     let k : n.mark ≡ m.mark = cc in

@@ -33,7 +33,7 @@ module _ {Row : Type 0} (passes : Row → Bool) where
     pub changes : (to : Row → Row) → change passes to rs ≡ change_nth (k - n - 1) to rs
 
   pub first_at : (n k : ℕ) (rs : List Row) → first_from passes n rs ≡ Some k → First n k rs
-  first_at n k [] e = let z : ◌≡◌ {A = ℕ} 0 1 = cc in absurd (omega arith)
+  first_at n k [] e = cc
   first_at n k (r ∷ rs) e =
       ⊎_elim
       (λ (b : passes r ≡ true).
@@ -89,7 +89,7 @@ numbered_first m rs =
 
 -- the row that is looked at
 pub look_first : (n k : ℕ) (m : Name) (rs : List NameRow) → first_from (row_of m) n rs ≡ Some k → nth (k - n - 1) rs ≡ Some (look m rs)
-look_first n k m [] e = let z : ◌≡◌ {A = ℕ} 0 1 = cc in absurd (omega arith)
+look_first n k m [] e = cc
 look_first n k m (r ∷ rs) e =
     ⊎_elim
     (λ (b : same m r.name ≡ true).
@@ -167,8 +167,8 @@ number_more m (r ∷ rs) more p =
 -- both go by the names alone
 pub number_named : (m : Name) (rs us : List NameRow) → names_of us ≡ names_of rs → row_number m us ≡ row_number m rs
 number_named m [] [] e = refl
-number_named m [] (u ∷ us) e = let z : ◌≡◌ {A = ℕ} 0 1 = cc in absurd (omega arith)
-number_named m (r ∷ rs) [] e = let z : ◌≡◌ {A = ℕ} 0 1 = cc in absurd (omega arith)
+number_named m [] (u ∷ us) e = cc
+number_named m (r ∷ rs) [] e = cc
 number_named m (r ∷ rs) (u ∷ us) e =
     let one : u.name ≡ r.name = cc in
     let rest : names_of us ≡ names_of rs = cc in
@@ -176,8 +176,8 @@ number_named m (r ∷ rs) (u ∷ us) e =
 
 pub present_named : (m : Name) (rs us : List NameRow) → names_of us ≡ names_of rs → some_row (row_of m) us ≡ some_row (row_of m) rs
 present_named m [] [] e = refl
-present_named m [] (u ∷ us) e = let z : ◌≡◌ {A = ℕ} 0 1 = cc in absurd (omega arith)
-present_named m (r ∷ rs) [] e = let z : ◌≡◌ {A = ℕ} 0 1 = cc in absurd (omega arith)
+present_named m [] (u ∷ us) e = cc
+present_named m (r ∷ rs) [] e = cc
 present_named m (r ∷ rs) (u ∷ us) e =
     let one : u.name ≡ r.name = cc in
     let rest : names_of us ≡ names_of rs = cc in

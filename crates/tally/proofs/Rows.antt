@@ -93,7 +93,7 @@ names_kept (suc j) to keeps (r ∷ rs) = ap (λ x. r.name ∷ x) (names_kept j t
 -- whether each name has one row goes by the names alone
 pub distinct_named : (rs us : List NameRow) → names_of us ≡ names_of rs → Distinct rs → Distinct us
 distinct_named [] [] e d = tt
-distinct_named [] (u ∷ us) e d = let z : ◌≡◌ {A = ℕ} 0 1 = cc in absurd (omega arith)
+distinct_named [] (u ∷ us) e d = cc
 distinct_named (r ∷ rs) [] e d = tt
 distinct_named (r ∷ rs) (u ∷ us) e d =
     let one : u.name ≡ r.name = cc in
