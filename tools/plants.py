@@ -99,8 +99,8 @@ OWED = [
     (r"measure|decreas|\bends\b|smaller", "that it ends"),
     (r"invariant|^loop", "the invariant of its loop"),
     (r"requires", "what a function that it calls asks"),
-    (r"index|range|bounds", "an index in range"),
     (r"overflow|arithmetic|subtract", "arithmetic in range"),
+    (r"index|range|bounds", "an index in range"),
 ]
 
 
@@ -117,7 +117,7 @@ def caught_by(crate, text):
     if not text.startswith("refused"):
         return "**NOTHING**" if text.startswith("NOT REFUSED") else f"**not tried** ({text[:80]})"
     if text.startswith("refused by a run"):
-        return "the output of its run" if "run=ended status=0" in text else "the end of its run"
+        return "the output of its run" if "run=ended status=0" in text else "the error that its run ends with"
     if NAMES_ALONE in text:
         return "**only the names in a proof**"
     at = re.search(r"(src/[\w/]+\.rt):(\d+):\d+: (.*)", text)
