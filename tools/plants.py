@@ -51,9 +51,11 @@ def tried(crates, plants):
 
 
 def function_at(path, line):
-    """The function that the line of the file stands in."""
-    above = path.read_text().split("\n")[:line]
-    names = [found[1] for text in above for found in [re.search(r"\bfn (\w+)", text)] if found]
+    """The function that the line of the file stands in, or that its attribute or comment stands above."""
+    lines = path.read_text().split("\n")
+    while lines[line - 1].lstrip().startswith(("#[", "//")):
+        line += 1
+    names = [found[1] for text in lines[:line] for found in [re.search(r"\bfn (\w+)", text)] if found]
     return names[-1] if names else path.name
 
 
@@ -62,20 +64,34 @@ OWED = [
     (r"what the impl .* ensures|lawful|law", "the law of its trait"),
     (r"invariant", "the invariant of its loop"),
     (r"requires", "what a function that it calls asks"),
-    (r"index|range|bounds", "an index in range"),
     (r"overflow|arithmetic|subtract", "arithmetic in range"),
+    (r"index|range|bounds", "an index in range"),
     (r"measure|decreas|ends", "that it ends"),
 ]
+
+# The same in a proof that is written by hand, by the name of its goal.
+GOALS = [
+    (r"^returns", "its ensures"),
+    (r"loop|invariant", "the invariant of its loop"),
+    (r"requires", "what a function that it calls asks"),
+    (r"^decreases", "that it ends"),
+]
+
+# A refusal that says nothing of the contract.
+NAMED = "only because a proof file names what the edit took away"
 
 
 def caught_by(crate, text):
     """What caught a refused plant, in words: the function, and what is owed there."""
     if not text.startswith("refused"):
         return "**NOTHING**" if text.startswith("NOT REFUSED") else f"**not tried** ({text[:80]})"
+    if NAMED in text:
+        return f"**not tried** ({NAMED})"
     at = re.search(r"(src/[\w/]+\.rt):(\d+):\d+: (.*)", text)
     if not at:
-        proof = re.search(r"(proofs/[\w/]+)[^:]*:\d+:\d+: (.*)", text)
-        return f"a proof ({proof[1]})" if proof else "the prover"
+        goal = re.search(r"proofs/[\w/+]*?(\w+)/\w+\.antt:\d+:\d+: error: `([\w-]+)`", text)
+        owed = next((words for test, words in GOALS if goal and re.search(test, goal[2])), None)
+        return f"`{goal[1]}`: {owed}" if owed else "a proof"
     owed = next((words for test, words in OWED if re.search(test, at[3])), "what it owes")
     return f"`{function_at(ROOT / 'crates' / crate / at[1], int(at[2]))}`: {owed}"
 
@@ -89,7 +105,7 @@ def main():
     for crate in crates:
         for number, (bug, _) in enumerate(plants[crate]):
             text = said.get((crate, number), "no word of it")
-            missed += not text.startswith("refused")
+            missed += not text.startswith("refused") or NAMED in text
             print(f"| `{crate}` | {bug} | {caught_by(crate, text)} |")
             if log:
                 print(f"    {text}")
