@@ -1,4 +1,4 @@
-ghost use Rattle.std.specs.Prelude.{◌≡◌, ℕ, ◌^◌, ◌<◌, ◌≤◌, length, MatchResult};
+ghost use Rattle.std.specs.Prelude.{◌≡◌, ℕ, ◌+◌, ◌*◌, ◌^◌, ◌<◌, ◌≤◌, length, MatchResult};
 ghost use Rattle.graph.specs.Refusals.{Refused};
 ghost use Rattle.graph.specs.Searching.{Linked};
 
@@ -11,7 +11,7 @@ use crate::fault::GraphFault;
 pub fn link<E: Edges>(edges: &E, turns: &mut [u32], links: &mut [u32]) -> Result<(), GraphFault>
     requires room { length (E.list edges.now) ≤ length links.old }
     requires few { length (E.list edges.now) < 2 ^ 32 }
-    ensures { MatchResult result (λ _. Linked (E.list edges.now) (length turns.old) (length (E.list edges.now)) turns.new links.new) (λ fault. (words : ℕ) → Refused (E.list edges.now) (length turns.old) words fault) }
+    ensures { MatchResult result (λ _. Linked (E.list edges.now) (length turns.old) (length (E.list edges.now)) turns.new links.new) (λ fault. (words : ℕ) → length turns.old < 2 ^ 31 → 4 * length turns.old + length (E.list edges.now) ≤ words → Refused (E.list edges.now) (length turns.old) words fault) }
 {
     turns.fill(0);
     // Counted: the trait gives an edge by its number, and a link is that number.

@@ -29,18 +29,20 @@ pub struct Node<'w> {
 }
 
 impl<'w> Children<'w> {
-    ghost use Rattle.std.specs.Prelude.{◌≡◌, ◌≤◌, IfSome, MatchOption};
+    ghost use Rattle.std.specs.Prelude.{◌≡◌, ◌/◌, ◌≤◌, length, IfSome, MatchOption};
     ghost use Rattle.rules.specs.Tree as book;
     ghost use Rattle.rules.specs.Tree.Chain.{end, link};
     ghost use Rattle.records.specs.Chains.{as_chain, head_of_node};
     ghost use Rattle.records.specs.Ids.{name_of_id};
     ghost use Rattle.records.specs.KindWords.{kind_word};
+    ghost use Rattle.records.specs.Reads.{Reads};
 
     /// The chain that the link `at` leads to: it nests no deeper than there are records.
     pub fn of(words: &'w [u32], at: u32) -> Children<'w>
         requires { Whole words.now at }
         ensures words { result.words.now ≡ words.now }
         ensures at { result.at ≡ at }
+        ensures left { result.left ≡ length words.now / 6 }
     {
         Children::within(words, at, words.len() / RECORD_WORDS)
     }
@@ -60,6 +62,7 @@ impl<'w> Children<'w> {
     pub fn first(mut self) -> Option<Node<'w>>
         ensures chain { MatchOption result (as_chain self.entry ≡ end) (λ n. as_chain self.entry ≡ link (head_of_node n) (as_chain n.below) (book.after (as_chain self.entry))) }
         ensures within { IfSome result (λ n. (n.below.words.now ≡ self.entry.words.now) × (n.below.left ≤ self.entry.left)) }
+        ensures node { IfSome result (λ n. Reads self.entry.words.now n.number n.record × (n.chain ≡ self.entry)) }
     {
         self.next()
     }

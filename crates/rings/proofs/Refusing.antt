@@ -1,5 +1,5 @@
 -- A graph that is refused is that of no count that fits the work memory.
-use Rattle.std.proofs.Common.{◌≡◌, ℕ, ◌+◌, ◌*◌, ◌^◌, ◌<◌, ◌≤◌, eqb, List, length, get_or, sym, ap, ◌∙◌, ⊎_elim, arith}
+use Rattle.std.proofs.Common.{◌≡◌, ℕ, ◌+◌, ◌^◌, ◌<◌, ◌≤◌, ◌⊎◌, eqb, List, length, get_or, sym, ap, subst, ◌∙◌, ⊎_elim, arith}
 use Rattle.std.proofs.lemmas.Map.Steps.{le-length_from_below}
 use Rattle.std.proofs.lemmas.List.Folds.{list_any_at}
 use Rattle.std.proofs.lemmas.Bool.{eq-eqb}
@@ -8,13 +8,13 @@ use Rattle.tables.specs.Living.{used}
 use Rattle.tables.specs.Matching.{name_words}
 use Rattle.tables.proofs.Holding.{holds_used}
 use Rattle.graph.specs.Graphs.{source, target, Components}
-use Rattle.graph.specs.Refusals.{Refused}
+use Rattle.graph.specs.Refusals.{Refused, Stray}
 use Rattle.graph.specs.declared.fault.GraphFault.{GraphFault}
 use Rattle.graph.specs.declared.fault.GraphFault.TheVariants.{TooLarge, NoRoom, NoSuchNode}
 use Rattle.rings.specs.Ringed.{Ready}
 use Rattle.rings.specs.Closing.{node, pairs}
 use Rattle.rings.specs.Joining.{joins}
-use Rattle.rings.specs.Spending.{Discounted, Subtracted, NotEnough}
+use Rattle.rings.specs.Spending.{Discounted, Subtracted, Unfit, NotEnough}
 use Rattle.rings.proofs.Naming.{node_within, edge_row}
 use Rattle.rings.proofs.Joined.{held_count, joins_held}
 
@@ -38,31 +38,29 @@ module _ (names edges : List ℕ) (c : Counts) (found found' : List ℕ) (ready 
       let b = node_within c.names w.row.to w.to_present in
       (omega arith, omega arith)
 
-pub refused_not : (names edges : List ℕ) (n words room : ℕ) (fault : GraphFault) → n ≡ used names_width names → room ≤ words + n
-    → Refused (joins edges) n words fault → NotEnough names edges room
-refused_not names edges n words room TooLarge count split r c found found' ready few few-edges enough =
+-- so it is of any words for which a fault is true
+pub unfit_not : (names edges : List ℕ) (room : ℕ) (fault : GraphFault) → Unfit names edges room fault → NotEnough names edges room
+unfit_not names edges room TooLarge u c found found' ready few few-edges enough =
     let x = ready_nodes names edges c found found' ready in
     let y = ready_edges names edges c found found' ready in
-    ⊎_elim (λ (h : 2 ^ 31 ≤ n). omega arith) (λ (h : 2 ^ 32 ≤ length (joins edges)). omega arith) r
-refused_not names edges n words room NoRoom count split r c found found' ready few few-edges enough =
+    ⊎_elim (λ (h : 2 ^ 31 ≤ used names_width names). omega arith) (λ (h : 2 ^ 32 ≤ length (joins edges)). omega arith) u
+unfit_not names edges room NoRoom u c found found' ready few few-edges enough =
     let x = ready_nodes names edges c found found' ready in
     let y = ready_edges names edges c found found' ready in
     omega arith
-refused_not names edges n words room (NoSuchNode k) count split r c found found' ready few few-edges enough =
+unfit_not names edges room (NoSuchNode k) u c found found' ready few few-edges enough =
     let x = ready_nodes names edges c found found' ready in
-    let w = ready_ends names edges c found found' ready k r.within in
+    let w = ready_ends names edges c found found' ready k u.within in
     let a = w.0 in
     let b = w.1 in
-    ⊎_elim (λ (h : n ≤ source (joins edges) k). omega arith) (λ (h : n ≤ target (joins edges) k). omega arith) r.past
+    ⊎_elim (λ (h : used names_width names ≤ source (joins edges) k). omega arith) (λ (h : used names_width names ≤ target (joins edges) k). omega arith) u.past
 
--- a table of names that is too large, or work memory that is too small
-pub too_large : (names edges : List ℕ) (n room : ℕ) → n ≡ used names_width names → 2 ^ 31 ≤ n → NotEnough names edges room
-too_large names edges n room count h c found found' ready few few-edges enough =
-    let x = ready_nodes names edges c found found' ready in omega arith
-
-pub too_small : (names edges : List ℕ) (n room : ℕ) → n ≡ used names_width names → room < 5 * n → NotEnough names edges room
-too_small names edges n room count h c found found' ready few few-edges enough =
-    let x = ready_nodes names edges c found found' ready in omega arith
+-- what the graph's fault says is true of the words, of which the labels take one for each name
+pub refused_unfit : (names edges : List ℕ) (n words room : ℕ) (fault : GraphFault) → n ≡ used names_width names → room ≤ words + n
+    → Refused (joins edges) n words fault → Unfit names edges room fault
+refused_unfit names edges n words room TooLarge count split r = subst (λ (m : ℕ). (2 ^ 31 ≤ m) ⊎ (2 ^ 32 ≤ length (joins edges))) count r
+refused_unfit names edges n words room NoRoom count split r = let few = r.1 in omega (arith, count, split, few)
+refused_unfit names edges n words room (NoSuchNode k) count split r = subst (λ (m : ℕ). Stray (joins edges) m k) count r.2
 
 -- labels that are all used are no more than the nodes
 pub used_few : (labels : List ℕ) (count : ℕ) → ((l : ℕ) → l < count → (a : ℕ) × (a < length labels) × (get_or labels a 0 ≡ l)) → count ≤ length labels

@@ -69,17 +69,18 @@ module _ (c : Counts) (found found' names edges labels marks shut : List ℕ) (c
       let book = closed_by_labels c labels count (entered_at names) ready.distinct ready.known long told_names (entered_held found c.names names ready.names_held) n p in
       let same_edges = joins_held c.names found' c.edges edges ready.edges_held in
       let Q = Quiet (entered_at names) labels marks label in
+      let L = (get_or shut label 0 ≡ 0) × (Q → ⊥) in
       ⊎_elim
       (λ (g : closed c n ≡ true).
       let k = subst (λ (es : List (ℕ × ℕ)). Closed (entered_at names) es labels label) (sym same_edges) (book.0 g) in
       let q = closed_quiet (entered_at names) (joins edges) labels marks label outside k in
       ⊎_elim (λ (t : eqb (get_or shut label 0) 1 ≡ true). t ∙ sym g)
-      (λ (t : eqb (get_or shut label 0) 1 ≡ false). absurd (when_false Q (Q → ⊥) t verdict q))
+      (λ (t : eqb (get_or shut label 0) 1 ≡ false). absurd ((when_false Q L t verdict).1 q))
       (cases_Bool (eqb (get_or shut label 0) 1)))
       (λ (g : closed c n ≡ false).
       ⊎_elim
       (λ (t : eqb (get_or shut label 0) 1 ≡ true).
-      let k = quiet_closed (entered_at names) (joins edges) labels marks label told.inside.targets outside (when_true Q (Q → ⊥) t verdict) in
+      let k = quiet_closed (entered_at names) (joins edges) labels marks label told.inside.targets outside (when_true Q L t verdict) in
       absurd (both_ways (closed c n) g (book.1 (subst (λ (es : List (ℕ × ℕ)). Closed (entered_at names) es labels label) same_edges k))))
       (λ (t : eqb (get_or shut label 0) 1 ≡ false). t ∙ sym g)
       (cases_Bool (eqb (get_or shut label 0) 1)))

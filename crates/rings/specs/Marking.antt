@@ -49,9 +49,9 @@ pub record Quiet (entered : ℕ → Bool) (labels marks : List ℕ) (label : ℕ
   pub other_labelled : slice_index_or labels other 0 ≡ label
   pub calm : (v : ℕ) → v < length labels → slice_index labels v ≡ label → (entered v ≡ false) × (slice_index marks v ≡ 0)
 
--- a label's mark is 1 exactly if it is quiet
+-- a label's mark is 1 exactly if it is quiet, and else 0
 abbrev pub Verdict : (entered : ℕ → Bool) → (labels marks : List ℕ) → (label mark : ℕ) → Type 0
-Verdict entered labels marks label mark = MatchBool (mark == 1) (Quiet entered labels marks label) (Quiet entered labels marks label → ⊥)
+Verdict entered labels marks label mark = MatchBool (mark == 1) (Quiet entered labels marks label) ((mark ≡ 0) × (Quiet entered labels marks label → ⊥))
 
 -- of each label below n
 abbrev pub Ruled : (entered : ℕ → Bool) → (labels marks closed : List ℕ) → (n : ℕ) → Type 0

@@ -4,14 +4,19 @@
 --   less_edge, spent   the words of names after an edge, and after some
 --   Discounted         words of names that held rows hold the book's discounted rows, where labels tell the components
 --   Subtracted         the same whatever the labels are
+--   Unfit              each fault, and what it says of the words
 --   NotEnough          no count that fits the work memory is held
 --   PassedOver         the names that keep their counts
-use Rattle.std.specs.Prelude.{◌≡◌, ℕ, ◌+◌, ◌*◌, ◌^◌, ◌<◌, ◌≤◌, Bool, true, false, not, ◌&&◌, List, [], ◌∷◌, length, ◌==◌, slice_index, if◌then◌else◌}
+use Rattle.std.specs.Prelude.{◌≡◌, ℕ, ◌+◌, ◌*◌, ◌^◌, ◌<◌, ◌≤◌, ◌⊎◌, Bool, true, false, not, ◌&&◌, List, [], ◌∷◌, length, ◌==◌, slice_index, if◌then◌else◌}
 use Rattle.rules.specs.Tables.{NameRow, Counts, names_width, names_in_words, table}
 use Rattle.rules.specs.Rings.{component, has_other, has_entry, led_into, discount_row, discount}
 use Rattle.tables.specs.Held.{changed}
 use Rattle.tables.specs.Counts.{less_counts}
+use Rattle.tables.specs.Living.{used}
 use Rattle.graph.specs.Graphs.{Components}
+use Rattle.graph.specs.Refusals.{Stray}
+use Rattle.graph.specs.declared.fault.GraphFault.{GraphFault}
+use Rattle.graph.specs.declared.fault.GraphFault.TheVariants.{TooLarge, NoRoom, NoSuchNode}
 use Rattle.rings.specs.Ringed.{Ready}
 use Rattle.rings.specs.Joining.{joins}
 use Rattle.rings.specs.declared.edge_rows.NodeEdge.{NodeEdge}
@@ -38,6 +43,12 @@ Discounted names edges labels count after = (c : Counts) (found found' : List �
 -- the same whatever the labels are
 abbrev pub Subtracted : (names edges after : List ℕ) → Type 0
 Subtracted names edges after = (c : Counts) (found found' : List ℕ) → Ready c found found' names edges → after ≡ table names_width (names_in_words (discount c)) found
+
+-- what each fault says of the words of names and edges, and of the words of work memory
+abbrev pub Unfit : (names edges : List ℕ) → (room : ℕ) → GraphFault → Type 0
+Unfit names edges room TooLarge = (2 ^ 31 ≤ used names_width names) ⊎ (2 ^ 32 ≤ length (joins edges))
+Unfit names edges room NoRoom = room < 5 * used names_width names + length (joins edges)
+Unfit names edges room (NoSuchNode k) = Stray (joins edges) (used names_width names) k
 
 -- words that hold the rows of no count that is small enough for the work memory
 abbrev pub NotEnough : (names edges : List ℕ) → (room : ℕ) → Type 0

@@ -1,7 +1,7 @@
 #![tactic(auto)]
 
 ghost use Rattle.std.specs.Prelude.{◌≡◌, length, MatchResult};
-ghost use Rattle.rings.specs.Spending.{Subtracted, NotEnough};
+ghost use Rattle.rings.specs.Spending.{Subtracted, Unfit, NotEnough};
 
 mod discount;
 mod edge_rows;
@@ -22,7 +22,7 @@ use tables::{Names, row_count};
 /// edges from the other names of the ring. A closed ring is a component of two names or more without an entry and without an edge from
 /// outside. The work memory has five words for each name and one for each edge, or more; where it has fewer, the names stay.
 pub fn subtract_cycles(names: &mut [u32], edges: &[u32], work: &mut [u32]) -> Result<(), GraphFault>
-    ensures { MatchResult result (λ _. Subtracted names.old edges.now names.new) (λ _. NotEnough names.old edges.now (length work.old) × (names.new ≡ names.old)) }
+    ensures { MatchResult result (λ _. Subtracted names.old edges.now names.new) (λ fault. Unfit names.old edges.now (length work.old) fault × NotEnough names.old edges.now (length work.old) × (names.new ≡ names.old)) }
 {
     let nodes = row_count::<Names>(names);
     if nodes >= NODES {

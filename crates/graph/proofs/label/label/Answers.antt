@@ -24,5 +24,6 @@ returns g c =
 pub returns-in_err-link : goal.returns-in_err-link
 returns-in_err-link g c =
     let refused : Refused (g.E.Edges.list c.args.edges.now) (length c.args.labels.now) (length c.args.work.now) c.in_err-link.field-0.0 =
-    subst (λ n. Refused (g.E.Edges.list c.args.edges.now) n (length c.args.work.now) c.in_err-link.field-0.0) (omega arith) (c.in_err-link.ensures (length c.args.work.now)) in
+    subst (λ n. Refused (g.E.Edges.list c.args.edges.now) n (length c.args.work.now) c.in_err-link.field-0.0) (omega arith)
+    (c.in_err-link.ensures (length c.args.work.now) (omega arith) (omega arith)) in
     search rules
