@@ -35,18 +35,6 @@ pub struct Change {
 }
 
 impl Rule {
-    /// Whether it takes the declaration of a name.
-    pub fn takes(self) -> bool {
-        matches!(
-            self,
-            Rule::FnDeclaration
-                | Rule::ClassDeclaration
-                | Rule::Declarator
-                | Rule::Restated
-                | Rule::Specifier
-        )
-    }
-
     /// Whether what stands in the record goes with it.
     pub(crate) fn takes_all(self) -> bool {
         matches!(

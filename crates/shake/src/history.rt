@@ -4,8 +4,7 @@ use crate::compare::changes;
 use crate::passes::Passes;
 use judge::Judge;
 use outline::CheckedTree;
-use records::Id;
-use std::alloc::{AllocError, Global};
+use std::alloc::Global;
 use text::Case;
 use verdicts::Config;
 
@@ -38,17 +37,5 @@ impl History {
             before = after;
         }
         Ok(history)
-    }
-
-    /// The names whose declarations were taken, and that nothing left declares.
-    pub fn lost(&self, heap: Global, left: &CheckedTree) -> Result<Vec<Id>, AllocError> {
-        let declared = left.declared(heap)?;
-        let mut lost = Vec::new(heap);
-        for change in self.passes.iter().flatten() {
-            if change.rule.takes() && !declared.iter().any(|named| named.id == change.id) {
-                lost.push(change.id)?;
-            }
-        }
-        Ok(lost)
     }
 }

@@ -3,8 +3,9 @@ use crate::change::Change;
 use crate::history::History;
 use crate::shaken::Shaken;
 use judge::Judge;
-use outline::{CheckedTree, OutlineLine};
+use outline::CheckedTree;
 use records::{Id, Kind};
+use std::alloc::{AllocError, Global};
 use std::io;
 use text::Case;
 use verdicts::Config;
@@ -40,8 +41,8 @@ pub fn report<J: Judge + Copy + Drop>(
         let count = left.reached();
         println!(rt; "passes: {passes}; records reached: {reached}, left: {count}")?;
     }
-    let lost = history.lost(heap, &left)?;
-    print_left(rt, &left, lost.as_slice())?;
+    print_left(rt, &left)?;
+    print_lost(rt, &CheckedTree::new(case.tree.clone()?)?, &left)?;
     Ok(())
 }
 
@@ -66,30 +67,41 @@ fn print_pass(rt: &HostRuntime, before: usize, changes: &[Change]) -> io::Result
     Ok(())
 }
 
-/// Prints the outline of what is left, the names that it declares, and its records that refer to lost ones.
-fn print_left(rt: &HostRuntime, left: &CheckedTree, lost: &[Id]) -> io::Result<()> {
-    let lines = left.lines(rt.alloc())?;
-    for line in &lines {
+/// Prints the outline of what is left, and the names that it declares.
+fn print_left(rt: &HostRuntime, left: &CheckedTree) -> io::Result<()> {
+    for line in &left.lines(rt.alloc())? {
         rt.println(*line)?;
     }
     for named in &left.declared(rt.alloc())? {
         rt.println(*named)?;
     }
-    for line in &lines {
-        print_lost(rt, *line, lost)?;
+    Ok(())
+}
+
+/// Prints the records of what is left that refer to lost names.
+fn print_lost(rt: &HostRuntime, found: &CheckedTree, left: &CheckedTree) -> io::Result<()> {
+    let lost = lost(rt.alloc(), found, left)?;
+    for line in &left.lines(rt.alloc())? {
+        let number = line.number;
+        let kind = line.record.kind;
+        let id = line.record.id();
+        if may_refer(kind) && lost.contains(&id) {
+            println!(rt; "{number} {kind} {id}: its declaration went")?;
+        }
     }
     Ok(())
 }
 
-/// Prints a record that refers to a lost name.
-fn print_lost(rt: &HostRuntime, line: OutlineLine, lost: &[Id]) -> io::Result<()> {
-    let number = line.number;
-    let kind = line.record.kind;
-    let id = line.record.id();
-    if may_refer(kind) && lost.contains(&id) {
-        println!(rt; "{number} {kind} {id}: its declaration went")?;
+/// The names that the tree declared as it was found, and that nothing left declares.
+fn lost(heap: Global, found: &CheckedTree, left: &CheckedTree) -> Result<Vec<Id>, AllocError> {
+    let declared = left.declared(heap)?;
+    let mut lost = Vec::new(heap);
+    for named in &found.declared(heap)? {
+        if !declared.iter().any(|other| other.id == named.id) {
+            lost.push(named.id)?;
+        }
     }
-    Ok(())
+    Ok(lost)
 }
 
 /// Whether such a record refers to its name, where it does not declare it.
