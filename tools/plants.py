@@ -99,6 +99,7 @@ OWED = [
     (r"measure|decreas|\bends\b|smaller", "that it ends"),
     (r"invariant|^loop", "the invariant of its loop"),
     (r"requires", "what a function that it calls asks"),
+    (r"control never comes here", "a line that is never reached"),
     (r"overflow|arithmetic|subtract", "arithmetic in range"),
     (r"index|range|bounds", "an index in range"),
 ]
