@@ -85,11 +85,8 @@ def tried(crates, plants):
 
 
 def function_at(path, line):
-    """The function that the line of the file stands in, or that an attribute there stands above."""
-    lines = path.read_text().split("\n")
-    while lines[line - 1].lstrip().startswith("#["):
-        line += 1
-    above = lines[:line]
+    """The function that the line of the file stands in."""
+    above = path.read_text().split("\n")[:line]
     names = [found[1] for text in above for found in [re.search(r"\bfn (\w+)", text)] if found]
     return names[-1] if names else path.name
 
@@ -102,8 +99,9 @@ OWED = [
     (r"measure|decreas|\bends\b|smaller", "that it ends"),
     (r"invariant|^loop", "the invariant of its loop"),
     (r"requires", "what a function that it calls asks"),
-    (r"index|range|bounds", "an index in range"),
+    (r"control never comes here", "a line that is never reached"),
     (r"overflow|arithmetic|subtract", "arithmetic in range"),
+    (r"index|range|bounds", "an index in range"),
 ]
 
 
@@ -120,7 +118,7 @@ def caught_by(crate, text):
     if not text.startswith("refused"):
         return "**NOTHING**" if text.startswith("NOT REFUSED") else f"**not tried** ({text[:80]})"
     if text.startswith("refused by a run"):
-        return "the output of its run" if "run=ended status=0" in text else "the end of its run"
+        return "the output of its run" if "run=ended status=0" in text else "the error that its run ends with"
     if NAMES_ALONE in text:
         return "**only the names in a proof**"
     at = re.search(r"(src/[\w/]+\.rt):(\d+):\d+: (.*)", text)
