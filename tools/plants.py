@@ -85,8 +85,11 @@ def tried(crates, plants):
 
 
 def function_at(path, line):
-    """The function that the line of the file stands in."""
-    above = path.read_text().split("\n")[:line]
+    """The function that the line of the file stands in, or that an attribute there stands above."""
+    lines = path.read_text().split("\n")
+    while lines[line - 1].lstrip().startswith("#["):
+        line += 1
+    above = lines[:line]
     names = [found[1] for text in above for found in [re.search(r"\bfn (\w+)", text)] if found]
     return names[-1] if names else path.name
 
