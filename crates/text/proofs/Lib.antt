@@ -4,3 +4,4 @@ pub mod Names
 pub mod Passing
 pub mod ReadBack
 pub mod Shrinking
+mod Going

@@ -1,12 +1,13 @@
 -- A text of cases, read line by line: the next case, or the first problem and its line.
 --
 --   Left, left                what is still to be read
+--   GoesOn                    the lines that the reader has passed, each counted
 --   skipped, pass_over        lines that say nothing: comments, and between cases empty lines
 --   rest_of, due_line         what stands behind the keyword that is due
 --   read_line                 the value of the next line
 --   Said, said                a case as the text says it, from its seven lines
 --   next_said                 the next case, if there is one
-use Rattle.std.specs.Prelude.{ℕ, ◌+◌, Bool, true, false, cond, List, [], ◌∷◌, Some, None, Ok, Err, Option, Result, ◌==◌}
+use Rattle.std.specs.Prelude.{◌≡◌, ℕ, ◌+◌, Bool, true, false, cond, List, [], ◌∷◌, ◌++◌, length, Some, None, Ok, Err, Option, Result, ◌==◌}
 use Rattle.std.specs.Str.{bytes_eq}
 use Rattle.text.specs.declared.fault.Keyword.{Keyword}
 use Rattle.text.specs.declared.fault.Keyword.TheVariants.{Case, Set, Retain, Tables, Tree, Calls, End}
@@ -29,6 +30,12 @@ pub record Left : Type 0 where
 -- the lines of bytes, after so many others
 abbrev pub left : List ℕ → ℕ → Left
 left bytes number = record { lines = split 10 bytes; number = number }
+
+-- the lines that the reader has passed, each counted; the others are left
+pub record GoesOn (before after : Left) : Type 0 where
+  pub passed : List (List ℕ)
+  pub lines : before.lines ≡ passed ++ after.lines
+  pub number : after.number ≡ before.number + length passed
 
 -- a line that says nothing: a comment, and between cases an empty line
 abbrev pub skipped : (between : Bool) → List ℕ → Bool

@@ -1,10 +1,10 @@
 // Reading the next case of a text.
-ghost use Rattle.std.specs.Prelude.{◌≡◌, ◌<◌, true, false, length, is_some, IfOk, Some, None, Ok, Err, MatchResult};
+ghost use Rattle.std.specs.Prelude.{◌≡◌, ◌<◌, true, false, length, is_some, IfOk, IfErr, Some, None, Ok, Err, MatchResult};
 ghost use Rattle.std.specs.Option.{option_map};
 ghost use Rattle.text.specs.Gives.{Finds};
 ghost use Rattle.text.specs.Keywords.{known};
 ghost use Rattle.text.specs.Place.{said_of};
-ghost use Rattle.text.specs.Reader.{left, skipped, pass_over_from, rest_of, numbered, due_line, read_line, said, next_said};
+ghost use Rattle.text.specs.Reader.{left, GoesOn, skipped, pass_over_from, rest_of, numbered, due_line, read_line, said, next_said};
 
 use super::Cases;
 use crate::case::Case;
@@ -83,7 +83,9 @@ impl<'a> Cases<'a> {
 
     // Steps past the next line that is no comment, and gives what stands behind the keyword that is due.
     fn due(&mut self, keyword: Keyword) -> Result<&'a [u8], TextFault>
-        ensures { MatchResult result (λ rest. due_line keyword self.old ≡ Ok (rest.now, self.new)) (λ e. due_line keyword self.old ≡ Err e) }
+        ensures line { MatchResult result (λ rest. due_line keyword self.old ≡ Ok (rest.now, self.new)) (λ e. due_line keyword self.old ≡ Err e) }
+        ensures on { GoesOn self.old self.new }
+        ensures at { IfErr result (λ e. e.line ≡ self.new.number) }
     {
         self.pass_over(false);
         if self.rest.is_empty() {
@@ -97,15 +99,20 @@ impl<'a> Cases<'a> {
 
     // What the next line says behind the keyword that is due.
     fn read<T: FromLine>(&mut self, heap: Global, keyword: Keyword) -> Result<T, TextFault>
-        ensures { Finds (read_line keyword T.meaning self.old) (λ v. (T.said v, self.new)) result }
+        ensures finds { Finds (read_line keyword T.meaning self.old) (λ v. (T.said v, self.new)) result }
+        ensures on { GoesOn self.old self.new }
+        ensures at { IfErr result (λ e. e.line ≡ self.new.number) }
     {
         let content = self.due(keyword)?;
         self.here(T::from_line(heap, content))
     }
 
     // The case that begins with the next line.
+    #[tactic(auto, using(crate::proofs::Going::goes_on_then))]
     fn read_case(&mut self, heap: Global) -> Result<Case, TextFault>
-        ensures { Finds (said self.old) (λ v. (said_of v, self.new)) result }
+        ensures finds { Finds (said self.old) (λ v. (said_of v, self.new)) result }
+        ensures on { GoesOn self.old self.new }
+        ensures at { IfErr result (λ e. e.line ≡ self.new.number) }
     {
         let name = self.read(heap, Keyword::Case)?;
         let settings = self.read(heap, Keyword::Set)?;
@@ -124,10 +131,12 @@ impl<'a> Cases<'a> {
         })
     }
 
-    /// Reads the next case, if there is one; or says what is wrong with the first line that is not as it should be.
+    /// Reads the next case, if there is one; or says what is wrong with the first line that is not as it should be, and then stands behind it.
     pub fn next_case(&mut self, heap: Global) -> Result<Option<Case>, TextFault>
         ensures finds { Finds (next_said self.old) (option_map (λ v. (said_of v, self.new))) result }
         ensures shorter { IfOk result (λ found. is_some found ≡ true → length self.new.lines < length self.old.lines) }
+        ensures on { GoesOn self.old self.new }
+        ensures at { IfErr result (λ e. e.line ≡ self.new.number) }
     {
         self.pass_over(true);
         if self.rest.is_empty() {
