@@ -22,7 +22,7 @@ returns-in_err-count c =
     let long : length c.split_at_mut-labels.result.0.now ≡ used names_width c.args.names.now = omega arith in
     let told : Unfit c.args.names.now c.args.edges.now (length c.args.work.now) c.in_err-count.field-0.0 =
     refused_unfit c.args.names.now c.args.edges.now (length c.split_at_mut-labels.result.0.now) (length c.split_at_mut-labels.result.1.now)
-        (length c.args.work.now) c.in_err-count.field-0.0 long (omega arith) c.in_err-count.ensures.0 in
+    (length c.args.work.now) c.in_err-count.field-0.0 long (omega arith) c.in_err-count.ensures.0 in
     let p = err_from_is_err_and c.from_residual.result c.from_residual.ensures.1 in
     rw (p.1, p.2) (told, unfit_not _ _ _ _ told, refl)
 
