@@ -1,4 +1,6 @@
 // The words that a case hands over.
+ghost use Rattle.std.specs.Prelude.{◌≡◌, replicate, IfOk};
+
 use std::alloc::{AllocError, Global};
 use text::Case;
 
@@ -13,7 +15,10 @@ pub struct Handed {
 
 impl Handed {
     /// The words of a case.
-    pub fn of(heap: Global, case: &Case) -> Result<Handed, AllocError> {
+    pub fn of(heap: Global, case: &Case) -> Result<Handed, AllocError>
+        ensures tree { IfOk result (λ h. h.tree.items ≡ case.now.tree.items) }
+        ensures tables { IfOk result (λ h. (h.declared.items ≡ replicate case.now.tables.declared 0) × (h.names.items ≡ replicate case.now.tables.names 0) × (h.edges.items ≡ replicate case.now.tables.edges 0)) }
+    {
         Ok(Handed {
             tree: case.tree.clone()?,
             declared: zeroed(heap, case.tables.declared)?,
@@ -24,6 +29,8 @@ impl Handed {
 }
 
 /// A table of so many words.
-fn zeroed(heap: Global, words: u32) -> Result<Vec<u32>, AllocError> {
+fn zeroed(heap: Global, words: u32) -> Result<Vec<u32>, AllocError>
+    ensures { IfOk result (λ table. table.items ≡ replicate words 0) }
+{
     vec![in heap; 0; words as usize]
 }
