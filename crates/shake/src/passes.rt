@@ -1,4 +1,6 @@
 // The passes of a repeat, made one by one, so that the tree is seen between them.
+ghost use Rattle.std.specs.Prelude.{◌≡◌, IfOk};
+
 use crate::handed::Handed;
 use answers::Refusal;
 use anyhow::anyhow;
@@ -24,7 +26,10 @@ impl<'c, J: Judge + Drop> Passes<'c, J> {
         case: &'c Case,
         config: Config,
         judge: J,
-    ) -> anyhow::Result<Passes<'c, J>> {
+    ) -> anyhow::Result<Passes<'c, J>>
+        ensures words { IfOk result (λ p. (p.handed.tree.items ≡ case.now.tree.items) × (p.retain.now ≡ case.now.retain.items)) }
+        ensures shaker { IfOk result (λ p. (p.shaker.config ≡ config) × (p.shaker.judge ≡ judge)) }
+    {
         let mut handed = Handed::of(heap, case)?;
         let retain = case.retain.as_slice();
         let shaker = TreeShaker::begin(
