@@ -4,6 +4,7 @@
 --   line_of, lines_of          what a line of the code says; the same of several
 --   named_of, names_of         the name that a record bears, with the record; the same of several
 --   Held, taken                names found so far; one more
+--   Counting, counted          how many names came, and how many may; one more
 use Rattle.std.specs.Prelude.{ℕ, ◌+◌, List, [], ◌∷◌, ◌++◌, length, map, nat_lt, if◌then◌else◌}
 use Rattle.rules.specs.Refusals.{Outcome}
 use Rattle.rules.specs.Refusals.Outcome.{fine, refused}
@@ -52,3 +53,15 @@ holds room names = record { room = room; names = names }
 abbrev pub taken : Head → Held → Outcome Held
 taken h s =
     if nat_lt (length s.names) s.room then fine (holds s.room (s.names ++ named_of h ∷ [])) else refused 0 0
+
+-- how many names came, and how many may come
+pub record Counting : Type 0 where
+  pub most : ℕ
+  pub count : ℕ
+
+abbrev pub counts : (most count : ℕ) → Counting
+counts most count = record { most = most; count = count }
+
+-- one more name, if one more may come
+abbrev pub counted : Head → Counting → Outcome Counting
+counted h s = if nat_lt s.count s.most then fine (counts s.most (s.count + 1)) else refused 0 0

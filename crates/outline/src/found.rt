@@ -1,4 +1,4 @@
-// Names that were found, in memory that was taken before: a tree declares no more names than it has records.
+// Names that were found, in memory that was taken before.
 ghost use Rattle.std.specs.Prelude.{◌≡◌, ◌≤◌, vec_len, IfOk};
 ghost use Rattle.std.specs.Vec.{vec_capacity};
 

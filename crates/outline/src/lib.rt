@@ -1,6 +1,7 @@
 // A checked tree, its outline in walk order, and the names that it declares.
 #![tactic(auto)]
 
+mod counted;
 mod declared;
 mod found;
 mod lines;

@@ -7,10 +7,10 @@ ghost use Rattle.dce.specs.Running.{answer_of};
 
 use crate::handed::Handed;
 use crate::refused::Refused;
-use dce::{Answer, Call, RepeatFault, Repeated, run};
+use dce::{Answer, BeginFault, Call, LengthsFault, MOST_TABLE_WORDS, RepeatFault, Repeated, run};
 use judge::Judge;
 use std::alloc::{AllocError, Global};
-use text::Case;
+use text::{Case, TableLengths};
 use verdicts::Config;
 
 /// What a repeat came to: the passes that it made, the records that its first check reached or why it was refused, and
@@ -30,6 +30,13 @@ impl Shaken {
         config: Config,
         judge: J,
     ) -> Result<Shaken, AllocError> {
+        if !tables_fit(case.tables) {
+            return Ok(Shaken {
+                passes: 0,
+                reached: Err(Refused::Begin(BeginFault::Lengths(LengthsFault))),
+                tree: case.tree.clone()?,
+            });
+        }
         let mut handed = Handed::of(heap, case)?;
         let ran = run(
             heap,
@@ -55,6 +62,14 @@ impl Shaken {
             tree: handed.tree,
         })
     }
+}
+
+/// Whether tables may be so long: memory is taken for no others, since begin refuses them for their lengths.
+fn tables_fit(tables: TableLengths) -> bool {
+    let lengths = [tables.declared, tables.names, tables.edges];
+    lengths
+        .iter()
+        .all(|words| *words as usize <= MOST_TABLE_WORDS)
 }
 
 /// The one answer, which is a repeat's.
