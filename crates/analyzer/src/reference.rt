@@ -48,8 +48,8 @@ impl<'t> Analyzer<'t> {
         if self.scope.is_own(id) {
             return Ok(());
         }
-        // A copy: the check does not cover a field that is read while others are lent for a write.
-        let path = self.path;
+        // Lent whole first: the check covers no part of the field itself while others are lent for a write.
+        let path = &self.path;
         let holders = &path[self.scope.start..self.scope.len];
         let event = Event {
             id,

@@ -38,12 +38,13 @@ impl<'s> Noted<'s> {
         Noted { pairs, free }
     }
 
-    /// Whether a name was noted.
+    /// Whether a name was noted. The search begins at the name noted first.
     fn has(&self, id: Id) -> bool
         ensures { result ≡ among (name_of_id id) self.now.names }
     {
         self.pairs[self.free..]
             .iter()
+            .rev()
             .any(|&[symbol, mark]| id == Id { symbol, mark })
     }
 
