@@ -16,7 +16,7 @@ fn first_acts<J: Judge>(judge: &J, words: &[u32]) -> Option<bool>
     ensures { IfSome result (λ b. b ≡ J.Judge.acts judge.now (below (below (tree_of words.now 1)))) }
 {
     checker::check(words).ok()?;
-    let script = Children::of(words, ROOT);
+    let script = Children::of(words, ROOT).chain();
     Some(judge.may_act(script.below().below()))
 }
 

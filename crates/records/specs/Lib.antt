@@ -5,3 +5,4 @@ pub mod Cursor
 pub mod Ending
 pub mod Chains
 pub mod Ids
+pub mod Equality

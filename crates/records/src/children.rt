@@ -3,9 +3,9 @@ ghost use Rattle.rules.specs.Words.{tree_of, Whole};
 ghost use Rattle.rules.specs.Opening.{depth};
 ghost use Rattle.records.specs.Ending.{whole_prop};
 
-use crate::RECORD_WORDS;
 use crate::id::Id;
 use crate::kind::Kind;
+use crate::links::Links;
 use crate::record::Record;
 
 /// The records of a chain in their order, read from the words as it comes to them. The chain begins at record `at`,
@@ -29,7 +29,7 @@ pub struct Node<'w> {
 }
 
 impl<'w> Children<'w> {
-    ghost use Rattle.std.specs.Prelude.{◌≡◌, ◌/◌, ◌≤◌, length, IfSome, MatchOption};
+    ghost use Rattle.std.specs.Prelude.{◌≡◌, ◌≤◌, IfSome, MatchOption};
     ghost use Rattle.rules.specs.Tree as book;
     ghost use Rattle.rules.specs.Tree.Chain.{end, link};
     ghost use Rattle.records.specs.Chains.{as_chain, head_of_node};
@@ -37,14 +37,19 @@ impl<'w> Children<'w> {
     ghost use Rattle.records.specs.KindWords.{kind_word};
     ghost use Rattle.records.specs.Reads.{Reads};
 
-    /// The chain that the link `at` leads to: it nests no deeper than there are records.
-    pub fn of(words: &'w [u32], at: u32) -> Children<'w>
-        requires { Whole words.now at }
+    /// The records that the link `at` leads to. Where the chain ends, `Links::chain` makes a value of it.
+    pub fn of(words: &'w [u32], at: u32) -> Links<'w>
         ensures words { result.words.now ≡ words.now }
         ensures at { result.at ≡ at }
-        ensures left { result.left ≡ length words.now / 6 }
     {
-        Children::within(words, at, words.len() / RECORD_WORDS)
+        Links { words, at }
+    }
+
+    /// The chain without records.
+    pub fn empty() -> Children<'w>
+        ensures { as_chain result ≡ end }
+    {
+        Children::within(&[], 0, 0)
     }
 
     /// The chain that the link `at` leads to, which nests no deeper than `left`.

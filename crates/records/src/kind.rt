@@ -121,7 +121,22 @@ impl From<Kind> for u32 {
 impl fmt::Display for Kind {
     /// Writes the kind in words, for a reader.
     fn fmt<W: fmt::Write>(&self, f: &mut fmt::Formatter<W>) -> fmt::Result {
-        f.write_str(match self {
+        f.write_str(self.name())
+    }
+}
+
+impl fmt::Display for UnknownKind {
+    fn fmt<W: fmt::Write>(&self, f: &mut fmt::Formatter<W>) -> fmt::Result {
+        write!(f, "no kind has the word {}", self.0)
+    }
+}
+
+impl Error for UnknownKind {}
+
+impl Kind {
+    /// The kind in words, for a reader.
+    pub fn name(self) -> &'static str {
+        match self {
             Kind::Module => "Module",
             Kind::Script => "Script",
             Kind::Import => "Import",
@@ -163,19 +178,9 @@ impl fmt::Display for Kind {
             Kind::DefaultPattern => "Default pattern",
             Kind::PropertyName => "Property name",
             Kind::ExpressionPattern => "Expression pattern",
-        })
+        }
     }
-}
 
-impl fmt::Display for UnknownKind {
-    fn fmt<W: fmt::Write>(&self, f: &mut fmt::Formatter<W>) -> fmt::Result {
-        write!(f, "no kind has the word {}", self.0)
-    }
-}
-
-impl Error for UnknownKind {}
-
-impl Kind {
     /// Whether such a record is an expression.
     pub fn is_expression(self) -> bool
         ensures { result ≡ expression (kind_word self) }

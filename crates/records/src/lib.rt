@@ -1,14 +1,17 @@
 #![tactic(auto)]
 
+pub mod book;
 pub mod children;
 pub mod id;
 pub mod kind;
+pub mod links;
 pub mod record;
 pub mod write;
 
 pub use children::{Children, Node};
 pub use id::Id;
 pub use kind::Kind;
+pub use links::Links;
 pub use record::Record;
 
 #[cfg(test)]

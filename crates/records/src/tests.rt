@@ -24,6 +24,7 @@ fn module() -> [u32; 36]
 fn kinds_have_words(rt: HostRuntime) -> Result<(), Fail> {
     let kind = Kind::try_from(14).map_err(|_| "14 is a kind")?;
     assert!(rt; kind == Kind::FnDeclaration);
+    assert_eq!(rt; kind.name(), "Fn declaration");
     assert_eq!(rt; kind.to_string(rt.alloc())?.as_str(), "Fn declaration");
     assert!(rt; kind.is_declaration());
     assert!(rt; !kind.is_expression());
@@ -48,11 +49,25 @@ fn a_record_is_read(rt: HostRuntime) -> Result<(), Fail> {
 fn children_come_in_order(rt: HostRuntime) {
     let words = module();
     let mut order = 0u32;
-    for node in Children::of(&words, 2) {
+    for node in Children::of(&words, 2).chain() {
         order = order
             .wrapping_mul(100)
             .wrapping_add(node.number.wrapping_mul(10))
             .wrapping_add(node.record.next);
+    }
+    assert_eq!(rt; order, 233440);
+}
+
+#[test]
+fn links_come_in_order(rt: HostRuntime) {
+    let words = module();
+    let mut order = 0u32;
+    for (n, child) in Children::of(&words, 2) {
+        let next = child.next;
+        order = order
+            .wrapping_mul(100)
+            .wrapping_add(n.wrapping_mul(10))
+            .wrapping_add(next);
     }
     assert_eq!(rt; order, 233440);
 }

@@ -27,7 +27,7 @@ pub fn remove<J: Judge>(shaker: &TreeShaker<'_, J>, words: &mut [u32]) -> bool
     ensures others { (j : ℕ) → (Numbers (owner j) (tree_of words.old 1) → ⊥) → slice_index words.new j ≡ slice_index words.old j }
 {
     let place = Place::at_root();
-    let root = Children::of(words, ROOT);
+    let root = Children::of(words, ROOT).chain();
     if !place.enters_at(root) {
         return false;
     }

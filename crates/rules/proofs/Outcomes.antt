@@ -1,6 +1,7 @@
 -- Outcomes that go on, and two outcomes side by side.
 --
 --   and_then_assoc, and_then_fine      to go on twice is to go on once; to go on with the result itself is to stay
+--   and_then_alike                     what goes on alike ends alike
 --   Alike, then_alike                  results that are related, or one refusal; so they stay where both go on
 --   then_alike_within, alike_then      where more follows on the left; where the right alone goes on
 use Rattle.std.proofs.Common.{◌≡◌, sym, refl, subst}
@@ -14,6 +15,11 @@ and_then_assoc (refused number at) f g = refl
 pub and_then_fine : {A : Type 0} (o : Outcome A) → and_then o (λ a. fine a) ≡ o
 and_then_fine (fine a) = refl
 and_then_fine (refused number at) = refl
+
+-- what goes on alike ends alike
+pub and_then_alike : {A B : Type 0} (o : Outcome A) (f g : A → Outcome B) → ((a : A) → f a ≡ g a) → and_then o f ≡ and_then o g
+and_then_alike (fine a) f g same = same a
+and_then_alike (refused number at) f g same = refl
 
 -- results that are related, or one refusal
 abbrev pub Alike : {A B : Type 0} → (A → B → Type 0) → Outcome A → Outcome B → Type 0

@@ -3,8 +3,8 @@
 -- read whole, more fuel reads the same, and so the chain at a record is made of the chains at its two links.
 --
 --   read_back, tree_is_read                        what the words hold is what `tree_of` reads
---   tree_end                                       the link 0
---   opens                                          the link to a record
+--   tree_end, whole_end                            the link 0
+--   opens, stands_opens                            the link to a record
 --   level_depth, tree_depth                        how deep a checked tree is
 use Rattle.std.proofs.Common.{◌≡◌, ℕ, zero, suc, ◌+◌, ◌≤◌, max, true, List, sym, refl, ap, ◌∙◌, ap₂, ⊎_elim, arith}
 use Rattle.std.proofs.lemmas.Bool.{cases_eq, eq-eqb, ne_eqb}
@@ -52,6 +52,10 @@ tree_is_read words c e = let t = check_sound words c e in read_back words 1 c t.
 pub tree_end : (words : List ℕ) (n : ℕ) → n ≡ 0 → tree_of words n ≡ end
 unfolding tree_of
 tree_end words n z = chain_end words (records words) n z
+
+pub whole_end : (words : List ℕ) (n : ℕ) → n ≡ 0 → Whole words n
+unfolding Whole
+whole_end words n z = rw (tree_end words n z) z
 
 -- the two links of a chain that was read
 linked : (words : List ℕ) (left n : ℕ) → 1 ≤ n → Holds words n (chain_of words (suc left) n) →
@@ -101,6 +105,9 @@ opens_with words (suc left) n e l holds =
 pub opens : (words : List ℕ) (n : ℕ) → 1 ≤ n → Whole words n → Opens words n
 unfolding tree_of Whole
 opens words n l whole = opens_with words (records words) n refl l whole
+
+pub stands_opens : (words : List ℕ) (n : ℕ) → stands words n ≡ true → Whole words n → Opens words n
+stands_opens words n s whole = opens words n (stands_positive words n s) whole
 
 -- a chain at a nesting that is allowed nests no deeper than what is left
 pub level_depth : (c : Chain) (nesting : ℕ) → nesting ≤ suc most_nesting → Level nesting c → nesting + depth c ≤ suc most_nesting
