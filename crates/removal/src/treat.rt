@@ -26,7 +26,7 @@ struct Turn {
 
 /// Treats the chain that the slot links to, each record after its children, and says whether something was removed.
 #[cycle(treating)]
-fn treat<B: Basis>(basis: &B, place: Place, words: &mut [u32], slot: usize, left: usize) -> bool
+pub fn treat<B: Basis>(basis: &B, place: Place, words: &mut [u32], slot: usize, left: usize) -> bool
     requires { (c : Chain) × Nested words.old slot left c }
     ensures made { (c : Chain) → Nested words.old slot left c → Made words.old words.new slot c (book.treat (B.Basis.by basis.now) (place_of place) c).chain }
     ensures changed { (c : Chain) → Nested words.old slot left c → result ≡ (book.treat (B.Basis.by basis.now) (place_of place) c).changed }

@@ -3,6 +3,7 @@ use crate::change::{Change, Rule};
 use crate::kinds::Kinds;
 use outline::CheckedTree;
 use records::{Children, Id, Kind, Node};
+use shaker::place::has_list;
 use std::alloc::{AllocError, Global};
 
 /// What a pass changed in a tree, in walk order. What stood in a record that went as a whole is not told again.
@@ -73,9 +74,4 @@ fn name_of(node: Node<'_>) -> Id {
         Kind::Declarator | Kind::Assignment => node.below.first_id(),
         _ => node.record.id(),
     }
-}
-
-/// Whether the children of such a record are a list of statements or items.
-fn has_list(kind: Kind) -> bool {
-    matches!(kind, Kind::Module | Kind::Script | Kind::Block)
 }

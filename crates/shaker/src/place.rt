@@ -122,7 +122,7 @@ pub fn first_has_list(chain: Children<'_>) -> bool
 }
 
 /// Whether the children of such a record are a list of statements or items.
-fn has_list(kind: Kind) -> bool
+pub fn has_list(kind: Kind) -> bool
     ensures { result ≡ listed (kind_word kind) }
 {
     matches!(kind, Kind::Module | Kind::Script | Kind::Block)

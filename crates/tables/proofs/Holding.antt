@@ -154,6 +154,22 @@ module _ {Row : Type 0} (w : ℕ) (in_words : Row → List ℕ) (some : 0 < w) w
             rows_none w (drop w (zeros w zero tail)) some (inl (let e = ap (λ k. length (replicate k 0 ++ tail)) (zero-mul w) in simp length-drop (omega arith)))
         nothing (suc n) tail short = ap (rows w) (zeros_less w n tail) ∙ zeros_none w n tail some short
 
+    -- zeroed, it is what the words found would be
+    pub holds_zeroed : zeroed w words ≡ zeroed w found
+    holds_zeroed =
+        let whole = length found / w in
+        let tail = drop (whole * w) found in
+        let e = joined_length rs h.proper in
+        let m = mul-sub w whole (length rs) in
+        let n = mul-le (length rs) w whole w h.room (omega arith) in
+        let d = length-replicate {A = ℕ} ((whole - length rs) * w) 0 in
+        let c = length-append (flat_map in_words rs) (replicate ((whole - length rs) * w) 0) in
+        let q : length words / w * w ≡ whole * w = ap (λ k. k / w * w) holds_length in
+        let past : drop (whole * w) words ≡ tail =
+        ap (drop (whole * w)) (holds_form ∙ sym (append_assoc (flat_map in_words rs) (replicate ((whole - length rs) * w) 0) tail))
+        ∙ drop_at (flat_map in_words rs ++ replicate ((whole - length rs) * w) 0) tail (whole * w) (omega arith) in
+        ap (λ k. [] ++ replicate (k - 0) 0 ++ drop k words) q ∙ ap (λ x. [] ++ replicate (whole * w - 0) 0 ++ x) past
+
   -- zeroed words hold no rows
   pub zeroed_holds : (found : List ℕ) → Holds w in_words found [] (zeroed w found)
   zeroed_holds found = record { proper = tt; room = omega arith; is = refl }
