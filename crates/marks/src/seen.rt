@@ -38,7 +38,7 @@ impl<'s> Noted<'s> {
         Noted { pairs, free }
     }
 
-    /// Whether a name was noted. The search begins at the name noted first.
+    /// Whether a name was noted, looking from the name noted first on.
     fn has(&self, id: Id) -> bool
         ensures { result ≡ among (name_of_id id) self.now.names }
     {
