@@ -5,15 +5,15 @@
 --   list_sweeps                  the verdict on a record with a list
 --   done_left, done_changed      what the book leaves of a record without a list is what the verdict leaves
 --   here_onto                    what is left of a record stands before what is left of the rest
---   down                         the children
+--   down, has_children           the children; whether there are any
 --   half_asked, half_record      the record with its children treated
 --   passed, listed, moved        a record that the rules do not enter; one with a list; another
 --   Ongoing, Walking             the loop, of a chain, and of each that the first slot may link to
 --   some_record, turned          a turn
 --   closed                       the end
-use Rattle.std.proofs.Common.{◌≡◌, ℕ, ◌-◌, ◌<◌, ◌≤◌, Bool, true, false, not, ◌||◌, List, length, get_or, sym, refl, ap, ◌∙◌, subst, arith}
+use Rattle.std.proofs.Common.{◌≡◌, ℕ, ◌-◌, ◌<◌, ◌≤◌, Bool, true, false, not, ◌||◌, ◌==◌, List, length, get_or, sym, refl, ap, ◌∙◌, subst, arith}
 use Rattle.std.proofs.Math.Bool.{or_assoc, or-false, or-true}
-use Rattle.std.proofs.lemmas.Bool.{both_ways}
+use Rattle.std.proofs.lemmas.Bool.{both_ways, eq-eqb, ne_eqb}
 use Rattle.rules.specs.Tree.{Head, Chain, is_end, below, after, alone, append}
 use Rattle.rules.specs.Tree.Chain.{end, link}
 use Rattle.rules.specs.Words.{tree_of, Whole}
@@ -45,6 +45,13 @@ asked_at w i d c nested = (
 -- children made of the link there are that chain
 chain_at : (w : List ℕ) (i d : ℕ) (c : Chain) (k : Children) → k.words.now ≡ w → k.at ≡ get_or w i 0 → Nested w i d c → as_chain k ≡ c
 chain_at w i d c k ew en nested = (λ j. tree_of (ew j) (en j)) ∙ read_at w i d c nested
+
+-- a slot is 0 where its chain has no record
+links_nothing : (w : List ℕ) (i d : ℕ) (c : Chain) → Nested w i d c → (get_or w i 0 == 0) ≡ is_end c
+links_nothing w i d end nested = eq-eqb (get_or w i 0) 0 nested.at.holds
+links_nothing w i d (link h ch rest) nested =
+    let some = positive_at w i h ch rest nested.at in
+    ne_eqb (get_or w i 0) 0 (λ none. absurd (omega (arith, some)))
 
 -- what the book leaves of a chain
 abbrev pub treats : By → Place → Chain → Chain
@@ -112,6 +119,10 @@ module _ (by : By) (p : Place) (h : Head) (ch rest : Chain) where
     module _ (k : Children) (kw : k.words.now ≡ w) (kn : k.at ≡ get_or w i 0) where
       is : as_chain k ≡ link h ch rest
       is = chain_at w i d (link h ch rest) k kw kn nested
+
+      -- it has children where their slot links to a record
+      pub has_children : (s : ℕ) → s ≡ first_slot (get_or w i 0) → not (get_or w s 0 == 0) ≡ not (is_end (below (as_chain k)))
+      has_children s es = ap not (links_nothing w s (d - 1) ch (down s es) ∙ ap (λ (c : Chain). is_end (below c)) (sym is))
 
       -- a record that is not entered
       pub passed : (r : ℕ) → r ≡ next_slot (get_or w i 0) → false ≡ entered_first p (as_chain k) → Treats by p w w i h ch rest r false

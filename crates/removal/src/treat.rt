@@ -88,7 +88,7 @@ fn treat_record<B: Basis>(
             changed: visit_mut_stmt_likes(basis, inside, words, children, left - 1),
         };
     }
-    let had = !found.below().is_end();
+    let had = words[children] != 0;
     let below = treat(basis, inside, words, children, left - 1);
     let verdict = basis.verdict(place, had, Children::within(words, n, left));
     let changed = below || verdict.removes();

@@ -59,7 +59,9 @@ impl<'t> Basis<'t> {
             && node.below.is_end()
     }
 
+    // Inlined, so that a record of another kind is not put together for a call.
     /// Whether the names of all Declarators that remain in a Var can go.
+    #[inline(always)]
     pub fn var_restates(&self, place: Place, node: Node<'_>) -> bool
         ensures { (acts : Chain → Bool) → result ≡ var_restates (by_of acts self.now) (place_of place) (head_of_node node.entry) (as_chain node.entry.below) }
     {

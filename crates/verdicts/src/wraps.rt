@@ -37,7 +37,9 @@ fn wraps_object(callee: Children<'_>) -> bool
         && returns_object(body.below())
 }
 
+// Inlined, so that a record of another kind is not put together for a call.
 /// Whether a Call gives way to the Object that it wraps.
+#[inline(always)]
 pub(crate) fn call_unwraps(node: Node<'_>) -> bool
     ensures { result ≡ call_unwraps (head_of_node node.entry) (as_chain node.entry.below) }
 {

@@ -2,7 +2,7 @@ use Rattle.std.proofs.Common.{arith, rules}
 use Rattle.shaker.specs.Places.{place_of}
 use Rattle.rules.specs.Removal.{swept}
 use Rattle.edit.proofs.Moves.{again, then}
-use Rattle.removal.proofs.Treats.{treats, asked_at, down, half_asked, half_record, passed, listed, moved, some_record, turned, closed}
+use Rattle.removal.proofs.Treats.{treats, asked_at, down, has_children, half_asked, half_record, passed, listed, moved, some_record, turned, closed}
 use Rattle.removal.proofs.treat.+treating.Goals as goal
 
 pub treat-treat_record-turn-requires : goal.treat-treat_record-turn-requires
@@ -65,7 +65,8 @@ treat_record-returns g t c = λ h ch rest nested.
     moved _ _ h ch rest _ _ _ nested c.within-found.result c.within-found.ensures.words c.within-found.ensures.at
     _ _ c.first_slot-children.ensures _ c.below-inside.ensures c.treat-below.ensures.made
     _ _ _ _ _ _ c.within.result c.within.ensures.words c.within.ensures.at c.if-not-enters_at.ensures c.if-first_has_list.ensures c.treat-below.ensures.changed
-    (search rules) c.verdict-verdict.ensures c.perform.ensures (search rules)
+    (has_children (g.B.Basis.by c.args.basis.now) (place_of c.args.place) h ch rest _ _ _ nested c.within-found.result c.within-found.ensures.words c.within-found.ensures.at _ c.first_slot-children.ensures)
+    c.verdict-verdict.ensures c.perform.ensures (search rules)
 
 pub visit_mut_stmt_likes-treat-changed-requires : goal.visit_mut_stmt_likes-treat-changed-requires
 visit_mut_stmt_likes-treat-changed-requires g t c κs within = (omega (arith, c.decreases), (within, c.requires))
