@@ -60,7 +60,9 @@ pub fn visit_mut_stmt_likes<B: Basis>(
     changed
 }
 
+// Inlined: a call of its own for each record takes a tenth of the whole.
 /// Treats the record that the slot links to, after its children.
+#[inline(always)]
 #[cycle(treating)]
 fn treat_record<B: Basis>(
     basis: &B,
