@@ -3,7 +3,7 @@ use crate::change::Change;
 use crate::history::History;
 use crate::shaken::Shaken;
 use judge::Judge;
-use outline::CheckedTree;
+use outline::{CheckedTree, Named};
 use records::{Id, Kind};
 use std::alloc::{AllocError, Global};
 use std::io;
@@ -41,8 +41,10 @@ pub fn report<J: Judge + Copy + Drop>(
         let count = left.reached();
         println!(rt; "passes: {passes}; records reached: {reached}, left: {count}")?;
     }
-    print_left(rt, &left)?;
-    print_lost(rt, &CheckedTree::new(case.tree.clone()?)?, &left)?;
+    let declared = left.declared(heap)?;
+    print_left(rt, &left, &declared)?;
+    let found = CheckedTree::new(case.tree.clone()?)?;
+    print_lost(rt, &found, &left, &declared)?;
     Ok(())
 }
 
@@ -68,19 +70,24 @@ fn print_pass(rt: &HostRuntime, before: usize, changes: &[Change]) -> io::Result
 }
 
 /// Prints the outline of what is left, and the names that it declares.
-fn print_left(rt: &HostRuntime, left: &CheckedTree) -> io::Result<()> {
+fn print_left(rt: &HostRuntime, left: &CheckedTree, declared: &[Named]) -> io::Result<()> {
     for line in &left.lines(rt.alloc())? {
         rt.println(*line)?;
     }
-    for named in &left.declared(rt.alloc())? {
+    for named in declared {
         rt.println(*named)?;
     }
     Ok(())
 }
 
 /// Prints the records of what is left that refer to lost names.
-fn print_lost(rt: &HostRuntime, found: &CheckedTree, left: &CheckedTree) -> io::Result<()> {
-    let lost = lost(rt.alloc(), found, left)?;
+fn print_lost(
+    rt: &HostRuntime,
+    found: &CheckedTree,
+    left: &CheckedTree,
+    declared: &[Named],
+) -> io::Result<()> {
+    let lost = lost(rt.alloc(), found, declared)?;
     for line in &left.lines(rt.alloc())? {
         let number = line.number;
         let kind = line.record.kind;
@@ -92,9 +99,8 @@ fn print_lost(rt: &HostRuntime, found: &CheckedTree, left: &CheckedTree) -> io::
     Ok(())
 }
 
-/// The names that the tree declared as it was found, and that nothing left declares.
-fn lost(heap: Global, found: &CheckedTree, left: &CheckedTree) -> Result<Vec<Id>, AllocError> {
-    let declared = left.declared(heap)?;
+/// The names that the tree declared as it was found, and that are not among those that what is left declares.
+fn lost(heap: Global, found: &CheckedTree, declared: &[Named]) -> Result<Vec<Id>, AllocError> {
     let mut lost = Vec::new(heap);
     for named in &found.declared(heap)? {
         if !declared.iter().any(|other| other.id == named.id) {
