@@ -1,6 +1,6 @@
 // A case's tree, shaken by a run of one repeat.
-ghost use Rattle.std.specs.Prelude.{◌≡◌, [], ◌∷◌, map};
-ghost use Rattle.rules.specs.Calls.{Repeated as BookRepeated};
+ghost use Rattle.std.specs.Prelude.{◌≡◌, ◌&&◌, [], ◌∷◌, map, nat_le};
+ghost use Rattle.rules.specs.Calls.{Repeated as BookRepeated, most_table_words};
 ghost use Rattle.rules.specs.Calls.Answer.{repeat_answer};
 ghost use Rattle.dce.specs.Calls.{told};
 ghost use Rattle.dce.specs.Running.{answer_of};
@@ -65,11 +65,12 @@ impl Shaken {
 }
 
 /// Whether tables may be so long: memory is taken for no others, since begin refuses them for their lengths.
-fn tables_fit(tables: TableLengths) -> bool {
-    let lengths = [tables.declared, tables.names, tables.edges];
-    lengths
-        .iter()
-        .all(|words| *words as usize <= MOST_TABLE_WORDS)
+fn tables_fit(tables: TableLengths) -> bool
+    ensures { result ≡ (nat_le tables.declared most_table_words && (nat_le tables.names most_table_words && nat_le tables.edges most_table_words)) }
+{
+    tables.declared as usize <= MOST_TABLE_WORDS
+        && tables.names as usize <= MOST_TABLE_WORDS
+        && tables.edges as usize <= MOST_TABLE_WORDS
 }
 
 /// The one answer, which is a repeat's.
