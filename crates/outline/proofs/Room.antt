@@ -19,18 +19,29 @@ all_taken room (h ∷ hs) names fits =
     rw (lt-ltb (length names) room less) (more ∙ ap (λ ns. fine (holds room ns)) (append_assoc names (named_of h ∷ []) (names_of hs)))
 
 -- so those of a tree are, where there is room for as many as it declares
-module _ {room : ℕ} {names : List Named} {lent tree : Chain} (none : names ≡ []) (room_is : room ≡ length (declared tree)) (same : lent ≡ tree) where
+module _ {room : ℕ} {names : List Named} {lent tree : Chain} (none : names ≡ []) (enough : length (declared tree) ≤ room) (same : lent ≡ tree) where
   taken_so : each taken (declared lent) (holds room names) ≡ fine (holds room (names_of (declared tree)))
-  taken_so = rw (none, same) (all_taken room (declared tree) [] (omega (arith, room_is)))
+  taken_so = rw (none, same) (all_taken room (declared tree) [] (omega (arith, enough)))
 
-  pub never_full : {number at : ℕ} → each taken (declared lent) (holds room names) ≡ refused number at → ⊥
-  never_full full = let so = taken_so in cc
+  pub enough_never_full : {number at : ℕ} → each taken (declared lent) (holds room names) ≡ refused number at → ⊥
+  enough_never_full full = let so = taken_so in cc
 
-  pub found_are : {left : ℕ} {found : List Named} → each taken (declared lent) (holds room names) ≡ fine (holds left found) → found ≡ names_of (declared tree)
-  found_are {left} {found} is =
+  pub enough_found_are : {left : ℕ} {found : List Named} → each taken (declared lent) (holds room names) ≡ fine (holds left found) → found ≡ names_of (declared tree)
+  enough_found_are {left} {found} is =
       let so = taken_so in
       let same_held : holds left found ≡ holds room (names_of (declared tree)) = cc in
       ap (λ s. s.names) same_held
+
+-- as there is, where there is room for its records
+module _ {room : ℕ} {names : List Named} {lent tree : Chain} (none : names ≡ []) (room_is : room ≡ reached tree) (same : lent ≡ tree) where
+  records_enough : length (declared tree) ≤ room
+  records_enough = omega (arith, room_is, few_declared under_nothing tree)
+
+  pub never_full : {number at : ℕ} → each taken (declared lent) (holds room names) ≡ refused number at → ⊥
+  never_full = enough_never_full none records_enough same
+
+  pub found_are : {left : ℕ} {found : List Named} → each taken (declared lent) (holds room names) ≡ fine (holds left found) → found ≡ names_of (declared tree)
+  found_are = enough_found_are none records_enough same
 
 -- names are counted, as long as so many may come
 all_counted : (most : ℕ) (hs : List Head) (n : ℕ) → n + length hs ≤ most → each counted hs (counts most n) ≡ fine (counts most (n + length hs))
